@@ -1,0 +1,43 @@
+-- Each answer's number and values, as document 01's table lists them, and what a write answers.
+use Prim.Native.Nat.{ℕ}
+use mathlib.Core.Bool.{Bool, true, false}
+use lib.Dec.{leb}
+use Rattle.answer.specs.declared.Answer.{Answer}
+use Rattle.answer.specs.declared.Answer.the-variants.{Done, Short, Flags, NodeType, NotUtf8, TooLong, BadText, TooWide, NoRoom, Unbuilt}
+use Rattle.answer.specs.declared.Values.{Values}
+use Rattle.answer.specs.declared.Written.{Written}
+
+-- the number
+abbrev pub numberOf : Answer → ℕ
+numberOf Done = 0
+numberOf (Short field expected actual) = 1
+numberOf (Flags byte rule) = 2
+numberOf (NodeType byte) = 3
+numberOf (NotUtf8 place) = 4
+numberOf (TooLong length) = 5
+numberOf (BadText field) = 6
+numberOf TooWide = 7
+numberOf (NoRoom needed) = 8
+numberOf (Unbuilt rule) = 9
+
+-- what is returned with it; what the table doesn't name is 0
+abbrev pub valuesOf : Answer → Values
+valuesOf Done = (0, 0, 0)
+valuesOf (Short field expected actual) = (field, expected, actual)
+valuesOf (Flags byte rule) = (byte, rule, 0)
+valuesOf (NodeType byte) = (byte, 0, 0)
+valuesOf (NotUtf8 place) = (place, 0, 0)
+valuesOf (TooLong length) = (length, 0, 0)
+valuesOf (BadText field) = (field, 0, 0)
+valuesOf TooWide = (0, 0, 0)
+valuesOf (NoRoom needed) = (needed, 0, 0)
+valuesOf (Unbuilt rule) = (rule, 0, 0)
+
+-- what writing n bytes answers, by whether the output has room for them
+abbrev pub wrote : Bool → ℕ → Written
+wrote true n = record { answer = Done; len = n }
+wrote false n = record { answer = NoRoom n; len = 0 }
+
+-- what writing n bytes into an output of m answers
+abbrev pub written : ℕ → ℕ → Written
+written n m = wrote (leb n m) n

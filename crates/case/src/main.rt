@@ -1,0 +1,161 @@
+// Answers each line of the standard input by a row on the standard output. Input of any length takes constant memory.
+use libc::STDIN_FILENO;
+use libc::STDOUT_FILENO;
+ghost use mathlib.Core.Path.{_≡_};
+ghost use Prim.Native.Nat.{_≤_};
+ghost use lib.ListN.{length};
+
+// A letter, a space and 4,096 digit pairs, and a byte more: a line that goes on past these is another line, whatever follows.
+const LONGEST: usize = 8195;
+
+// A row's number, used count and 4,096 bytes in hex, two spaces and its end.
+const ROW: usize = 8200;
+
+// Where the output is filled up to, and whether it could be written where that was due.
+struct Filled {
+    done: usize,
+    ok: bool,
+}
+
+// Answers a line behind `done` bytes of the output, or at its start, once these are written, where it may lack the room.
+fn answer(line: &[u8], output: &mut [u8], done: usize) -> Filled
+    requires { ⌜ done ≤ length (now output) ⌝ }
+    ensures { λ r. ⌜ r .done ≤ length (now (output .entry)) ⌝ }
+{
+    if output.len() - done < ROW {
+        let ok = io::write_all(STDOUT_FILENO, &output[..done]);
+        let n = case_line::answer_line(line, output);
+        return Filled { done: n, ok };
+    }
+    let n = case_line::answer_line(line, &mut output[done..]);
+    Filled {
+        done: done + n,
+        ok: true,
+    }
+}
+
+// Where the first line that has no end starts, and whether all answers could be written.
+struct Lines {
+    start: usize,
+    ok: bool,
+}
+
+// Answers the lines of the input that have an end. The first `searched` bytes have none.
+fn answer_lines(input: &[u8], searched: usize, output: &mut [u8]) -> Lines
+    requires { ⌜ searched ≤ length (now input) ⌝ }
+    ensures { λ r. ⌜ r .start ≤ length (now (input .entry)) ⌝ }
+{
+    let n = input.len();
+    let mut start = 0;
+    let mut done = 0;
+    let mut at = bytes::scan::find(input, searched, n, b'\n');
+    while at < n {
+        let filled = answer(&input[start..at], output, done);
+        if !filled.ok {
+            return Lines { start, ok: false };
+        }
+        done = filled.done;
+        start = at + 1;
+        at = bytes::scan::find(input, start, n, b'\n');
+    }
+    let ok = io::write_all(STDOUT_FILENO, &output[..done]);
+    Lines { start, ok }
+}
+
+fn least(a: usize, b: usize) -> usize
+    ensures { λ r. ⌜ (r ≤ a) × (r ≤ b) ⌝ }
+{
+    if a < b { a } else { b }
+}
+
+// Moves the unfinished line to the front of the input, as much of it as counts, and answers how much that is.
+fn keep(input: &mut [u8], start: usize, end: usize) -> usize
+    requires { ⌜ (start ≤ end) × (end ≤ length (now input)) ⌝ }
+    ensures { λ r. ⌜ r ≤ 8195 ⌝ }
+{
+    lines::to_front(input, start, least(end - start, LONGEST))
+}
+
+// Where the input ends after a read, and whether that failed.
+struct Got {
+    end: usize,
+    failed: bool,
+}
+
+// Reads once behind what was kept.
+fn read_behind(input: &mut [u8], kept: usize) -> Got
+    requires { ⌜ kept ≤ length (now input) ⌝ }
+    ensures { λ r. ⌜ (kept ≤ r .end) × (r .end ≤ length (now (input .entry))) ⌝ }
+{
+    let got = libc::read(STDIN_FILENO, &mut input[kept..]);
+    let n = io::count(got, &input[kept..]);
+    Got {
+        end: kept + n,
+        failed: got < 0,
+    }
+}
+
+// How much of an unfinished line stands at the front of the input, and whether there may be more to read.
+struct Rest {
+    kept: usize,
+    more: bool,
+}
+
+// Reads once, and answers the lines that have an end. Where the read fails, or the answers can't be written, nothing is kept.
+fn take_turn(input: &mut [u8], kept: usize, output: &mut [u8]) -> Rest
+    requires { ⌜ (kept ≤ 8195) × (length (now input) ≡ 65536) ⌝ }
+    ensures { λ r. ⌜ r .kept ≤ 8195 ⌝ }
+{
+    let got = read_behind(input, kept);
+    if got.failed {
+        return Rest {
+            kept: 0,
+            more: false,
+        };
+    }
+    let end = got.end;
+    if end == kept {
+        return Rest { kept, more: false };
+    }
+    let lines = answer_lines(&input[..end], kept, output);
+    if !lines.ok {
+        return Rest {
+            kept: 0,
+            more: false,
+        };
+    }
+    Rest {
+        kept: keep(input, lines.start, end),
+        more: true,
+    }
+}
+
+// Answers the lines of the input, and says how much of an unfinished last one stands at the front. A proved loop has to end, and
+// nothing says that an input does, so the turns are counted down from a number that no run uses up.
+fn answer_input(input: &mut [u8], output: &mut [u8]) -> usize
+    requires { ⌜ length (now input) ≡ 65536 ⌝ }
+    ensures { λ r. ⌜ r ≤ 8195 ⌝ }
+{
+    let mut kept = 0;
+    let mut turns = u64::MAX;
+    while turns > 0 {
+        turns -= 1;
+        let rest = take_turn(input, kept, output);
+        kept = rest.kept;
+        if !rest.more {
+            return kept;
+        }
+    }
+    kept
+}
+
+fn main() {
+    let mut input = [0u8; 65536];
+    let mut output = [0u8; 65536];
+    let kept = answer_input(&mut input, &mut output);
+    if kept == 0 {
+        return;
+    }
+    let n = case_line::answer_line(&input[..kept], &mut output);
+    io::write_all(STDOUT_FILENO, &output[..n]);
+}

@@ -1,0 +1,170 @@
+-- F-TEID is a kind of fixed fields. No contract cites this file.
+use Prim.Native.Nat.{ℕ, _+_, _≤_, _<_}
+use native.Mathlib.Omega.{arith}
+use mathlib.Core.Path.{_≡_, refl, sym, ap, _∙_}
+use mathlib.Core.Bool.{Bool, true, false}
+use mathlib.Core.List.{List, [], _∷_, _++_}
+use lib.Dec.{lit<}
+use lib.ListN.{length, getD, take, drop}
+use Rattle.answer.specs.declared.Answer.{Answer}
+use Rattle.answer.specs.declared.Answer.the-variants.{Done}
+use Rattle.octets.specs.Octets.{pick, bit, under, flagByte, Bytes, field, put}
+use Rattle.octets.proofs.Laws.{under-le, flags-kept, length-field, take-head, field-split, bytes-take, bytes-drop, bytes-field, number-again, ipv4-bytes, ipv6-bytes}
+use Rattle.kind.specs.Layout.{accepts, refuses, outcome, clear}
+use Rattle.kind.specs.Kind.{Reads, Kind}
+use Rattle.kind.specs.Demand3.{Demand3, PrefixFree}
+use Rattle.kind.proofs.Demand3.{demand3, prefix-free}
+use Rattle.kind.proofs.Fixed.{Fixed, accepted-whole, cut-length, kind-of, local-of}
+use Rattle.kind.proofs.Laws.{end, whole, Alike, alike-field, alike-bit}
+use Rattle.f_teid.specs.Fteid.{Value, meaning, tail, wire, rule, layout, kept, chosen, concrete, recordOf, refused, found, read, reader}
+use Rattle.f_teid.proofs.Laws.{end4, end6, chosen-ends, concrete-ends}
+
+-- payloads that are alike have the same four flags
+module _ (s t : List ℕ) (a : Alike kept (end layout s) s t) where
+  same-bit : (j : ℕ) → j < 4 → bit j (getD t 0 0) ≡ bit j (getD s 0 0)
+  same-bit j h = alike-bit j (omega arith) a (omega arith)
+
+  pub same-rule : rule (getD t 0 0) ≡ rule (getD s 0 0)
+  same-rule = rw (same-bit 2 (lit< tt), same-bit 3 (lit< tt))
+
+  pub same-end : end layout t ≡ end layout s
+  same-end = rw (same-bit 0 (lit< tt), same-bit 1 (lit< tt), same-bit 2 (lit< tt), same-bit 3 (lit< tt))
+
+  same-chosen : bit 2 (getD s 0 0) ≡ true → chosen t ≡ chosen s
+  unfolding chosen
+  same-chosen ch =
+      let e = chosen-ends s ch in
+      rw (
+        same-bit 0 (lit< tt),
+        same-bit 1 (lit< tt),
+        same-bit 2 (lit< tt),
+        same-bit 3 (lit< tt),
+        alike-field a 1 (under (bit 3 (getD s 0 0)) 1) (omega arith) (omega arith),
+      )
+
+  same-concrete : bit 2 (getD s 0 0) ≡ false → concrete t ≡ concrete s
+  unfolding concrete
+  same-concrete ch =
+      let e = concrete-ends s ch in
+      rw (
+        same-bit 0 (lit< tt),
+        same-bit 1 (lit< tt),
+        same-bit 2 (lit< tt),
+        same-bit 3 (lit< tt),
+        alike-field a 1 4 (omega arith) (omega arith),
+        alike-field a 5 (under (bit 0 (getD s 0 0)) 4) (omega arith) (omega arith),
+        alike-field a (end4 s) (under (bit 1 (getD s 0 0)) 16) (omega arith) (omega arith),
+      )
+
+  pub same-record : recordOf t ≡ recordOf s
+  same-record = go (bit 2 (getD s 0 0)) refl
+    where
+      go : (c : Bool) → bit 2 (getD s 0 0) ≡ c → recordOf t ≡ recordOf s
+      go true ch = rw (same-bit 2 (lit< tt), ch) (same-chosen ch)
+      go false ch = rw (same-bit 2 (lit< tt), ch) (same-concrete ch)
+
+-- The written form with CHID as it stands: of any payload that has its fields, what stands there, forbidden flags or not.
+unfoldable pub flat : Value → List ℕ
+flat v = flagByte (v .v4 ∷ v .v6 ∷ v .ch ∷ v .chid ∷ []) ∷ tail v
+
+module _ (s : List ℕ) (b : Bytes s) (h : end layout s ≤ length s) where
+  flat-chosen : bit 2 (getD s 0 0) ≡ true → flat (meaning (chosen s)) ≡ clear kept (take (end layout s) s)
+  unfolding flat tail meaning chosen clear
+  flat-chosen ch =
+      let f = getD s 0 0 in
+      let e = chosen-ends s ch in
+      let u = under (bit 3 f) 1 in
+      rw (
+        flags-kept 4 f,
+        e,
+        take-head u s (omega arith),
+        ch,
+        number-again (bit 3 f) 1 (field s 1 u) (bytes-take u (drop 1 s) (bytes-drop 1 s b)) (lit< tt) (length-field 1 u s (omega arith)),
+      )
+
+  flat-concrete : bit 2 (getD s 0 0) ≡ false → flat (meaning (concrete s)) ≡ clear kept (take (end layout s) s)
+  unfolding flat tail meaning concrete clear
+  flat-concrete ch =
+      let f = getD s 0 0 in
+      let e = concrete-ends s ch in
+      let u4 = under (bit 0 f) 4 in
+      let u6 = under (bit 1 f) 16 in
+      let a4 : List ℕ = field s 5 u4 in
+      let a6 : List ℕ = field s (end4 s) u6 in
+      let sum : end6 s ≡ 1 + (4 + (u4 + u6)) = omega arith in
+      rw (
+        flags-kept 4 f,
+        e,
+        sum,
+        take-head (4 + (u4 + u6)) s (omega arith),
+        field-split 1 4 (u4 + u6) s,
+        field-split 5 u4 u6 s,
+        ch,
+        bytes-field 1 4 s b (omega arith),
+        ipv4-bytes (bit 0 f) a4 (length-field 5 u4 s (omega arith)),
+        ipv6-bytes (bit 1 f) a6 (length-field (end4 s) u6 s (omega arith)),
+      )
+
+  pub flat-again : flat (meaning (recordOf s)) ≡ clear kept (take (end layout s) s)
+  flat-again = go (bit 2 (getD s 0 0)) refl
+    where
+      go : (c : Bool) → bit 2 (getD s 0 0) ≡ c → flat (meaning (recordOf s)) ≡ clear kept (take (end layout s) s)
+      go true ch = ap (λ (t : Bool). flat (meaning (pick t (chosen s) (concrete s)))) ch ∙ flat-chosen ch
+      go false ch = ap (λ (t : Bool). flat (meaning (pick t (chosen s) (concrete s)))) ch ∙ flat-concrete ch
+
+-- what is read has CHID only with CH, so that its written form is the flat one
+pub lawful : (s : List ℕ) → rule (getD s 0 0) ≡ 0 → wire (meaning (recordOf s)) ≡ flat (meaning (recordOf s))
+unfolding wire flat meaning chosen concrete
+lawful s e = go (bit 2 (getD s 0 0)) (bit 3 (getD s 0 0)) refl refl
+  where
+    go : (c i : Bool) → bit 2 (getD s 0 0) ≡ c → bit 3 (getD s 0 0) ≡ i → wire (meaning (recordOf s)) ≡ flat (meaning (recordOf s))
+    go true i ch chid = simp ch
+    go false false ch chid = simp (ch, chid)
+    go false true ch chid = let z : _≡_ {A = ℕ} 4 0 = unfold under in rw (ch, chid) at e in absurd (omega arith)
+
+-- the reader follows the layout
+pub on-accepts : (s : List ℕ) (n : ℕ) → outcome layout s ≡ accepts n → (read s .answer ≡ Done) × (read s .used ≡ n) × (meaning (read s .«record») ≡ meaning (recordOf s))
+unfolding read found
+on-accepts s n q = (rw q, rw q, rw q)
+
+pub on-refuses : (s : List ℕ) (a : Answer) → outcome layout s ≡ refuses a → read s .answer ≡ a
+unfolding read found refused
+on-refuses s a q = rw q
+
+abbrev pub fixed : Fixed
+fixed =
+    record {
+      Value = Value;
+      reader = reader;
+      layout = layout;
+      kept = kept;
+      valueOf = λ s. meaning (recordOf s);
+      wire = wire;
+      on-accepts = on-accepts;
+      on-refuses = on-refuses;
+      same-rule = same-rule;
+      same-end = same-end;
+      same-value = λ s t a. ap meaning (same-record s t a);
+      rewritten = λ s b e h. lawful s e ∙ flat-again s b h;
+    }
+
+-- ---- F-TEID is a kind: demand 3 holds of it, and no written form is a proper beginning of another
+abbrev pub kind : Kind
+kind = kind-of fixed
+
+pub demands : Demand3 kind
+demands = demand3 kind
+
+pub unlike : PrefixFree kind
+unlike = prefix-free kind (local-of fixed)
+
+-- the written form of a value that was read has 1 to 25 bytes
+pub extent : {s : List ℕ} {v : Value} {n : ℕ} → Reads reader s v n → (1 ≤ length (wire v)) × (length (wire v) ≤ 25)
+extent {s} {v} r =
+    let w = accepted-whole fixed r in
+    let l : length (wire v) ≡ end layout s = cut-length fixed r ∙ w .ends in
+    rw l (go (bit 2 (getD s 0 0)) refl)
+  where
+    go : (c : Bool) → bit 2 (getD s 0 0) ≡ c → (1 ≤ end layout s) × (end layout s ≤ 25)
+    go true ch = omega (arith, chosen-ends s ch, under-le (bit 3 (getD s 0 0)) 1)
+    go false ch = omega (arith, concrete-ends s ch, under-le (bit 0 (getD s 0 0)) 4, under-le (bit 1 (getD s 0 0)) 16)

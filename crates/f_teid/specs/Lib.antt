@@ -1,0 +1,2 @@
+pub mod Fteid
+pub mod Builder

@@ -1,0 +1,183 @@
+-- Laws of the walk over a layout's fields, and of cleared payloads. No contract cites this file.
+use Prim.Native.Nat.{ℕ, zero, suc, _+_, _-_, _/_, _%_, _^_, _≤_, _<_}
+use native.Mathlib.Omega.{arith}
+use native.Mathlib.Nat.{add-zero, add-assoc, lt-of-le-of-lt, mod-le, mod-mod}
+use native.Mathlib.Numerals.{add-one}
+use mathlib.Core.Path.{_≡_, refl, sym, ap, _∙_}
+use mathlib.Core.Bool.{Bool, true, false}
+use mathlib.Core.List.{List, [], _∷_}
+use lib.Dec.{leb, eqb}
+use lib.ListN.{length, getD, take}
+use lib.Pow.{field as bits, mod-mod-pow}
+use borrow.Author.Tests.{le-leb, lt-leb, leb-true}
+use Rattle.answer.specs.declared.Answer.{Answer}
+use Rattle.answer.specs.declared.Answer.the-variants.{Done, Short, Flags, TooLong}
+use Rattle.octets.specs.Octets.{pick, bit, under, Bytes, field}
+use Rattle.octets.proofs.Laws.{field-take}
+use Rattle.kind.specs.Layout.{Wanted, wanted, Layout, Outcome, accepts, refuses, walk, judged, outcome, clear}
+
+-- ---- the walk
+
+-- all the bytes that the fields take
+abbrev pub total : List Wanted → ℕ
+total [] = 0
+total (wanted number sent width ∷ fs) = under sent width + total fs
+
+-- where all the fields are there, the walk ends behind them
+walk-fits : (n at : ℕ) (fs : List Wanted) → at + total fs ≤ n → walk n at fs ≡ accepts (at + total fs)
+unfolding walk
+walk-fits n at [] h = rw add-zero
+walk-fits n at (wanted number sent width ∷ fs) h =
+    rw (le-leb (at + under sent width) n (omega arith), ← add-assoc) (walk-fits n (at + under sent width) fs (omega arith))
+
+-- a walk that ends has all the fields, within the payload
+walk-ends : (n at e : ℕ) (fs : List Wanted) → at ≤ n → walk n at fs ≡ accepts e → (e ≡ at + total fs) × (e ≤ n)
+unfolding walk
+walk-ends n at e [] h q = let z : at ≡ e = cc in (omega arith, omega arith)
+walk-ends n at e (wanted number sent width ∷ fs) h q =
+    go (walk-ends n (at + under sent width) e fs) (leb (at + under sent width) n) refl q
+  where
+    go : (at + under sent width ≤ n → walk n (at + under sent width) fs ≡ accepts e → (e ≡ at + under sent width + total fs) × (e ≤ n))
+        → (t : Bool) → leb (at + under sent width) n ≡ t → pick t (walk n (at + under sent width) fs) (refuses (Short number (at + under sent width) n)) ≡ accepts e → (e ≡ at + (under sent width + total fs)) × (e ≤ n)
+    go next true p q = let r : (e ≡ at + under sent width + total fs) × (e ≤ n) = next (leb-true _ _ p) q in (omega arith, omega arith)
+    go next false p q = let z : _≡_ {A = ℕ} 0 1 = cc in absurd (omega arith)
+
+-- no walk refuses with done
+walk-refuses : (n at : ℕ) (fs : List Wanted) → walk n at fs ≡ refuses Done → ⊥
+unfolding walk
+walk-refuses n at [] q = let z : _≡_ {A = ℕ} 0 1 = cc in omega arith
+walk-refuses n at (wanted number sent width ∷ fs) q = go (walk-refuses n (at + under sent width) fs) (leb (at + under sent width) n) q
+  where
+    go : (walk n (at + under sent width) fs ≡ refuses Done → ⊥) → (t : Bool) → pick t (walk n (at + under sent width) fs) (refuses (Short number (at + under sent width) n)) ≡ refuses Done → ⊥
+    go next true q = next q
+    go next false q = let z : _≡_ {A = ℕ} 0 1 = cc in omega arith
+
+-- ---- what a layout makes of a payload
+module _ (l : Layout) (s : List ℕ) where
+  -- where its fields end
+  abbrev pub end : ℕ
+  end = l .head + total (l .fields (getD s 0 0))
+
+  pub too-long : 65535 < length s → outcome l s ≡ refuses (TooLong (length s))
+  unfolding outcome
+  too-long h = rw (lt-leb _ _ h)
+
+  module _ (fits : length s ≤ 65535) where
+    pub too-short : length s < l .head → outcome l s ≡ refuses (Short 0 (l .head) (length s))
+    unfolding outcome
+    too-short h = rw (le-leb _ _ fits, lt-leb _ _ h)
+
+    pub headed : l .head ≤ length s → outcome l s ≡ judged (getD s 0 0) (l .rule (getD s 0 0)) (walk (length s) (l .head) (l .fields (getD s 0 0)))
+    unfolding outcome
+    headed h = rw (le-leb _ _ fits, le-leb _ _ h)
+
+    pub whole : l .rule (getD s 0 0) ≡ 0 → end ≤ length s → outcome l s ≡ accepts end
+    unfolding judged
+    whole e h = rw (headed (omega arith), e) (walk-fits (length s) (l .head) (l .fields (getD s 0 0)) h)
+
+  -- what an accepted payload has
+  pub record Whole (n : ℕ) : Type 0 where
+    pub fits : length s ≤ 65535
+    pub free : l .rule (getD s 0 0) ≡ 0
+    pub ends : n ≡ end
+    pub within : n ≤ length s
+
+  judged-accepts : (n r : ℕ) → l .rule (getD s 0 0) ≡ r → length s ≤ 65535 → l .head ≤ length s → judged (getD s 0 0) r (walk (length s) (l .head) (l .fields (getD s 0 0))) ≡ accepts n → Whole n
+  unfolding judged
+  judged-accepts n zero e f h q =
+      let (a, b) = walk-ends (length s) (l .head) n (l .fields (getD s 0 0)) h q in
+      record { fits = f; free = e; ends = a; within = b }
+  judged-accepts n (suc r) e f h q = let z : _≡_ {A = ℕ} 0 1 = cc in absurd (omega arith)
+
+  judged-refuses : (r : ℕ) → judged (getD s 0 0) r (walk (length s) (l .head) (l .fields (getD s 0 0))) ≡ refuses Done → ⊥
+  unfolding judged
+  judged-refuses zero q = walk-refuses (length s) (l .head) (l .fields (getD s 0 0)) q
+  judged-refuses (suc r) q = let z : _≡_ {A = ℕ} 0 1 = cc in omega arith
+
+  abbrev tests : Bool → Bool → Outcome
+  tests t u =
+      pick t
+      (pick u (judged (getD s 0 0) (l .rule (getD s 0 0)) (walk (length s) (l .head) (l .fields (getD s 0 0)))) (refuses (Short 0 (l .head) (length s))))
+      (refuses (TooLong (length s)))
+
+  pub accepted : (n : ℕ) → outcome l s ≡ accepts n → Whole n
+  unfolding outcome
+  accepted n q = go (leb (length s) 65535) (leb (l .head) (length s)) refl refl q
+    where
+      go : (t u : Bool) → leb (length s) 65535 ≡ t → leb (l .head) (length s) ≡ u → tests t u ≡ accepts n → Whole n
+      go true true p p′ q = judged-accepts n (l .rule (getD s 0 0)) refl (leb-true _ _ p) (leb-true _ _ p′) q
+      go true false p p′ q = let z : _≡_ {A = ℕ} 0 1 = cc in absurd (omega arith)
+      go false u p p′ q = let z : _≡_ {A = ℕ} 0 1 = cc in absurd (omega arith)
+
+  -- no layout refuses with done
+  pub never-done : outcome l s ≡ refuses Done → ⊥
+  unfolding outcome
+  never-done q = go (leb (length s) 65535) (leb (l .head) (length s)) q
+    where
+      go : (t u : Bool) → tests t u ≡ refuses Done → ⊥
+      go true true q = judged-refuses (l .rule (getD s 0 0)) q
+      go true false q = let z : _≡_ {A = ℕ} 0 1 = cc in omega arith
+      go false u q = let z : _≡_ {A = ℕ} 0 1 = cc in omega arith
+
+-- ---- cleared payloads
+pub length-clear : (ks s : List ℕ) → length (clear ks s) ≡ length s
+unfolding clear
+length-clear [] s = refl
+length-clear (k ∷ ks) [] = refl
+length-clear (k ∷ ks) (b ∷ s) = ap suc (length-clear ks s)
+
+pub bytes-clear : (ks s : List ℕ) → Bytes s → Bytes (clear ks s)
+unfolding clear
+bytes-clear [] s h = h
+bytes-clear (k ∷ ks) [] h = tt
+bytes-clear (k ∷ ks) (b ∷ s) h = (lt-of-le-of-lt (mod-le b (2 ^ k)) (h .0), bytes-clear ks s (h .1))
+
+pub clear-clear : (ks s : List ℕ) → clear ks (clear ks s) ≡ clear ks s
+unfolding clear
+clear-clear [] s = refl
+clear-clear (k ∷ ks) [] = refl
+clear-clear (k ∷ ks) (b ∷ s) = rw (clear-clear ks s, mod-mod b (2 ^ k))
+
+-- behind the first bytes all stands as it was
+pub field-clear : (ks : List ℕ) (at w : ℕ) (s : List ℕ) → length ks ≤ at → field (clear ks s) at w ≡ field s at w
+unfolding clear
+field-clear [] at w s h = refl
+field-clear (k ∷ ks) zero w s h = absurd (omega arith)
+field-clear (k ∷ ks) (suc at) w [] h = refl
+field-clear (k ∷ ks) (suc at) w (b ∷ s) h = field-clear ks at w s (omega arith)
+
+first-clear : (k : ℕ) (ks : List ℕ) (n : ℕ) (s : List ℕ) → 0 < n → n ≤ length s → getD (clear (k ∷ ks) (take n s)) 0 0 ≡ getD s 0 0 % 2 ^ k
+unfolding clear
+first-clear k ks zero s h g = absurd (omega arith)
+first-clear k ks (suc n) [] h g = absurd (omega arith)
+first-clear k ks (suc n) (b ∷ s) h g = refl
+
+-- a kept bit is as it was
+pub bit-kept : (j k b : ℕ) → j < k → bit j (b % 2 ^ k) ≡ bit j b
+bit-kept j k b h =
+    let e : k ≡ suc (k - suc j) + j = omega arith in
+    ap (λ (i : ℕ). bit j (b % 2 ^ i)) e ∙ ap (λ (x : ℕ). eqb x 1) (ap (λ (x : ℕ). x % 2) (bits b (suc (k - suc j)) j) ∙ low (k - suc j))
+  where
+    low : (m : ℕ) → b / 2 ^ j % 2 ^ suc m % 2 ≡ b / 2 ^ j % 2
+    low m = rw (← add-one m) (mod-mod-pow (b / 2 ^ j) m 1)
+
+-- two payloads of at least n bytes that are equal once cut there and cleared
+pub record Alike (ks : List ℕ) (n : ℕ) (s t : List ℕ) : Type 0 where
+  pub left : n ≤ length s
+  pub right : n ≤ length t
+  pub equal : clear ks (take n t) ≡ clear ks (take n s)
+
+module _ {ks : List ℕ} {n : ℕ} {s t : List ℕ} where
+  pub alike-field : Alike ks n s t → (at w : ℕ) → length ks ≤ at → at + w ≤ n → field t at w ≡ field s at w
+  alike-field a at w h g =
+      sym (field-take at w n t g)
+      ∙ sym (field-clear ks at w (take n t) h)
+      ∙ ap (λ (l : List ℕ). field l at w) (a .equal)
+      ∙ field-clear ks at w (take n s) h
+      ∙ field-take at w n s g
+
+  pub alike-bit : {k : ℕ} (j : ℕ) → j < k → Alike (k ∷ ks) n s t → 0 < n → bit j (getD t 0 0) ≡ bit j (getD s 0 0)
+  alike-bit {k} j p a h =
+      sym (bit-kept j k (getD t 0 0) p)
+      ∙ ap (bit j) (sym (first-clear k ks n t h (a .right)) ∙ ap (λ (l : List ℕ). getD l 0 0) (a .equal) ∙ first-clear k ks n s h (a .left))
+      ∙ bit-kept j k (getD s 0 0) p

@@ -1,0 +1,4 @@
+pub mod Layout
+pub mod Kind
+pub mod Write
+pub mod Demand3

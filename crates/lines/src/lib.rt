@@ -1,0 +1,31 @@
+// Lines in a buffer that is read into piece by piece.
+ghost use mathlib.Core.Path.{_≡_};
+ghost use Prim.Native.Nat.{_-_, _≤_, min};
+ghost use lib.ListN.{length};
+ghost use Rattle.octets.specs.Octets.{field, put};
+
+// How many of n bytes from a place on a buffer has.
+fn there(len: usize, from: usize, n: usize) -> usize
+    ensures { λ r. ⌜ r ≡ min n (len - from) ⌝ }
+    ensures { λ r. ⌜ (r ≤ n) × (r ≤ len - from) ⌝ }
+{
+    if len < from {
+        return 0;
+    }
+    if n < len - from { n } else { len - from }
+}
+
+// Moves n bytes from a place on to the front of a buffer, as many as are there, and answers how many they are.
+pub fn to_front(buffer: &mut [u8], from: usize, n: usize) -> usize
+    ensures { λ r. ⌜ r ≡ length (field (now (buffer .entry)) from n) ⌝ }
+    ensures { λ r. ⌜ now (buffer .exit) ≡ put (now (buffer .entry)) 0 (field (now (buffer .entry)) from n) ⌝ }
+    ensures { λ r. ⌜ r ≤ n ⌝ }
+{
+    let count = there(buffer.len(), from, n);
+    let mut i = 0;
+    while i < count {
+        buffer[i] = buffer[from + i];
+        i += 1;
+    }
+    count
+}

@@ -1,0 +1,99 @@
+-- Node ID is a kind. No contract cites this file.
+use Prim.Native.Nat.{ℕ, suc, _+_, _≤_, _<_}
+use native.Mathlib.Omega.{arith}
+use mathlib.Core.Path.{_≡_, refl, sym, ap, _∙_}
+use mathlib.Core.List.{List, [], _∷_}
+use lib.ListN.{length, getD, take, drop, length-drop}
+use lib.Seq.{length-take-le, take-length, take-all}
+use Rattle.octets.specs.Octets.{Bytes, field, put}
+use Rattle.octets.proofs.Laws.{bytes-take, field-take, take-first}
+use Rattle.text.specs.Utf8.{goodLen}
+use Rattle.kind.specs.Kind.{Reads, Kind}
+use Rattle.kind.specs.Demand3.{Demand3}
+use Rattle.kind.proofs.Demand3.{demand3}
+use Rattle.node_id.specs.NodeId.{Value, meant, meaning, wire, read, reader, ofIpv4, ofIpv6, named}
+use Rattle.node_id.proofs.Laws.{whole4, whole6, wholeName, Form, form4, form6, formName, formed}
+
+first-take : (n : ℕ) (s : List ℕ) → getD (take (suc n) s) 0 0 ≡ getD s 0 0
+first-take n [] = refl
+first-take n (b ∷ s) = refl
+
+-- what a reading is, by the payload's form: used bytes, and a written form that is the payload cut there
+pub record Cut (s : List ℕ) : Type 0 where
+  pub used : ℕ
+  pub within : used ≤ length s
+  pub is-used : read s .used ≡ used
+  pub rewritten : wire (meaning s (read s .«record»)) ≡ take used s
+  pub again : Bytes s → Reads reader (take used s) (meaning s (read s .«record»)) used
+
+cut-of : (s : List ℕ) → length s ≤ 65535 → Form s → Cut s
+unfolding meaning meant wire
+cut-of s f (form4 h e) =
+    let q = whole4 s f h e in
+    let l : length (take 5 s) ≡ 5 = length-take-le 5 s h in
+    let q′ = whole4 (take 5 s) (omega arith) (omega arith) (first-take 4 s ∙ e) in
+    let a : field (take 5 s) 1 4 ≡ field s 1 4 = field-take 1 4 5 s (omega arith) in
+    record {
+      used = 5;
+      within = h;
+      is-used = rw q;
+      rewritten = rw q (sym (take-first 4 s (omega arith) ∙ ap (λ (b : ℕ). b ∷ field s 1 4) e));
+      again = λ b. record { bytes = bytes-take 5 s b; done = rw q′; value = rw (q, q′, a); used = rw q′ };
+    }
+cut-of s f (form6 h e) =
+    let q = whole6 s f h e in
+    let l : length (take 17 s) ≡ 17 = length-take-le 17 s h in
+    let q′ = whole6 (take 17 s) (omega arith) (omega arith) (first-take 16 s ∙ e) in
+    let a : field (take 17 s) 1 16 ≡ field s 1 16 = field-take 1 16 17 s (omega arith) in
+    record {
+      used = 17;
+      within = h;
+      is-used = rw q;
+      rewritten = rw q (sym (take-first 16 s (omega arith) ∙ ap (λ (b : ℕ). b ∷ field s 1 16) e));
+      again = λ b. record { bytes = bytes-take 17 s b; done = rw q′; value = rw (q, q′, a); used = rw q′ };
+    }
+cut-of s f (formName h e) =
+    let q = wholeName s f h e in
+    let all : take (length s) s ≡ s = take-length s in
+    let text : take (goodLen (drop 1 s)) (drop 1 s) ≡ drop 1 s = take-all (goodLen (drop 1 s)) (drop 1 s) (omega (arith, length-drop 1 s)) in
+    record {
+      used = length s;
+      within = omega arith;
+      is-used = rw q;
+      rewritten = rw (q, all, text) (sym (cons s (omega arith) ∙ ap (λ (b : ℕ). b ∷ drop 1 s) e));
+      again = λ b. rw all (record { bytes = b; done = rw q; value = refl; used = rw q });
+    }
+  where
+    cons : (s : List ℕ) → 0 < length s → s ≡ getD s 0 0 ∷ drop 1 s
+    cons [] h = absurd (omega arith)
+    cons (b ∷ s) h = refl
+
+module _ {s : List ℕ} {v : Value} {n : ℕ} (r : Reads reader s v n) where
+  the-cut : Cut s
+  the-cut = let (f, form) = formed s (r .done) in cut-of s f form
+
+  pub rewritten : wire v ≡ take n s
+  rewritten = rw (← r .value, ← r .used, the-cut .is-used) (the-cut .rewritten)
+
+  pub read-again : Reads reader (take n s) v (length (take n s))
+  read-again =
+      let e : the-cut .used ≡ n = sym (the-cut .is-used) ∙ r .used in
+      let l : length (take n s) ≡ n = length-take-le n s (omega (arith, the-cut .within)) in
+      rw l (rw (e, r .value) at (the-cut .again (r .bytes)))
+
+-- nothing is ignored in a Node ID but the bytes behind it
+abbrev pub kind : Kind
+kind =
+    record {
+      Value = Value;
+      reader = reader;
+      clear = λ s. s;
+      wire = wire;
+      short = λ {s} r. formed s (r .done) .0;
+      written = rewritten;
+      again = read-again;
+    }
+
+-- ---- Node ID is a kind: demand 3 holds of it
+pub demands : Demand3 kind
+demands = demand3 kind

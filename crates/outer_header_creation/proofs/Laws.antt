@@ -1,0 +1,103 @@
+-- What `read` answers, case by case. No contract cites this file.
+use Prim.Native.Nat.{ℕ, _+_, _≤_, _<_}
+use native.Mathlib.Omega.{arith}
+use mathlib.Core.Path.{_≡_, refl, ap}
+use mathlib.Core.Bool.{Bool, true, false, _&&_}
+use mathlib.Core.List.{List, [], _∷_}
+use mathlib.Core.Option.{Option, none, some}
+use lib.ListN.{length, getD, take, drop}
+use Rattle.answer.specs.declared.Answer.the-variants.{Done, Short, TooLong}
+use Rattle.types.specs.declared.MaybeTeid.{MaybeTeid}
+use Rattle.octets.specs.declared.MaybeIpv4.{MaybeIpv4}
+use Rattle.octets.specs.declared.MaybeIpv6.{MaybeIpv6}
+use Rattle.octets.specs.declared.MaybeU16.{MaybeU16}
+use Rattle.octets.specs.Octets.{under, presence, bytesOf, numberIf}
+use Rattle.kind.specs.Layout.{Wanted, wanted}
+use Rattle.kind.proofs.Laws as walks
+use Rattle.kind.proofs.Laws.{total}
+use Rattle.kind.proofs.Rows.{stops}
+use Rattle.outer_header_creation.specs.declared.OuterHeaderCreation.{OuterHeaderCreation}
+use Rattle.outer_header_creation.specs.declared.Ends.{Ends}
+use Rattle.outer_header_creation.specs.OuterHeaderCreation.{Flags, flagsOf, asked, fieldsOf, layout, endsOf, sentIf, orZero, untagged, recordOf, refused, found, read}
+
+-- the fields that a payload's first byte asks for, and where they end
+abbrev pub fields : List ℕ → List Wanted
+fields s = fieldsOf (asked (flagsOf (getD s 0 0)))
+
+abbrev pub ends : List ℕ → Ends
+ends s = endsOf (asked (flagsOf (getD s 0 0)))
+
+module _ (s : List ℕ) where
+  pub too-long : 65535 < length s → read s ≡ refused (TooLong (length s))
+  unfolding read found
+  too-long h = rw (walks.too-long layout s h)
+
+  module _ (fits : length s ≤ 65535) where
+    pub short-whole : length s < 2 → read s ≡ refused (Short 0 2 (length s))
+    unfolding read found
+    short-whole h = rw (walks.too-short layout s fits h)
+
+    -- the fields before the k-th are there, and that one, which ends at e, isn't
+    pub short-field : (k number : ℕ) (sent : Bool) (width : ℕ) (after : List Wanted) (e : ℕ)
+        → drop k (fields s) ≡ wanted number sent width ∷ after
+        → e ≡ 2 + total (take k (fields s)) + under sent width
+        → 2 + total (take k (fields s)) ≤ length s
+        → length s < e
+        → read s ≡ refused (Short number e (length s))
+    unfolding read found
+    short-field k number sent width after e q p h g = rw (stops layout s k number sent width after e q refl fits p h g)
+
+    pub whole : ends s .stag ≤ length s → read s ≡ record { answer = Done; used = ends s .stag; «record» = recordOf s }
+    unfolding read found endsOf
+    whole h =
+        let e : walks.end layout s ≡ ends s .stag = omega arith in
+        rw (walks.whole layout s fits refl (omega arith), e)
+
+-- ---- what is written under a flag
+
+-- an address or a tag, where it is given too
+pub sent-given {ℓ} : {A : Type ℓ} (bytes : Option A → List ℕ) → bytes none ≡ [] → (f g : Bool) (x : A) → bytes (presence (f && g) x) ≡ sentIf f (bytes (presence g x))
+unfolding presence sentIf
+sent-given bytes e true g x = refl
+sent-given bytes e false g x = e
+
+-- a TEID or a port, as 0 where it is absent
+pub sent-anyway : (w x : ℕ) (f g : Bool) → numberIf w (presence f (under g x)) ≡ sentIf f (bytesOf w (orZero (presence g x)))
+unfolding numberIf presence under sentIf orZero
+sent-anyway w x true true = refl
+sent-anyway w x true false = refl
+sent-anyway w x false g = refl
+
+-- ---- what was read is written as it stood
+module _ (f : Bool) (w : ℕ) (bs : List ℕ) (e : length bs ≡ under f w) where
+  no-bytes : (bs : List ℕ) → length bs ≡ 0 → [] ≡ bs
+  no-bytes [] h = refl
+  no-bytes (b ∷ bs) h = absurd (omega arith)
+
+  pub back-given : (xs : List ℕ) → xs ≡ bs → sentIf f xs ≡ bs
+  unfolding sentIf under
+  back-given xs q = go f e
+    where
+      go : (f : Bool) → length bs ≡ under f w → sentIf f xs ≡ bs
+      go true e = q
+      go false e = no-bytes bs e
+
+  pub back-anyway : (o : Option ℕ) → 0 < w → numberIf w o ≡ bs → sentIf f (bytesOf w (orZero o)) ≡ bs
+  unfolding sentIf under orZero numberIf
+  back-anyway o h q = go f o e q
+    where
+      go : (f : Bool) (o : Option ℕ) → length bs ≡ under f w → numberIf w o ≡ bs → sentIf f (bytesOf w (orZero o)) ≡ bs
+      go true none e q = absurd (omega (arith, ap length q))
+      go true (some x) e q = q
+      go false o e q = no-bytes bs e
+
+-- ---- a record of parts that calls handed over
+pub of-parts : (r : OuterHeaderCreation) (f f′ : Flags) (t t′ : MaybeTeid) (a a′ : MaybeIpv4) (b b′ : MaybeIpv6) (p p′ : MaybeU16)
+    → r ≡ untagged f t a b p
+    → f ≡ f′
+    → t ≡ t′
+    → a ≡ a′
+    → b ≡ b′
+    → p ≡ p′
+    → r ≡ untagged f′ t′ a′ b′ p′
+of-parts r f f′ t t′ a a′ b b′ p p′ q e1 e2 e3 e4 e5 = rw (e1, e2, e3, e4, e5) at q

@@ -1,0 +1,440 @@
+// The Outer Header Creation payload: which outer header a forwarded packet gets.
+use answer::Answer;
+use answer::Written;
+use octets::MaybeIpv4;
+use octets::MaybeIpv6;
+use octets::MaybeU16;
+use octets::MaybeU32;
+use types::MaybeTeid;
+use types::Teid;
+ghost use mathlib.Core.Path.{_≡_};
+ghost use mathlib.Core.Bool.{_&&_, _||_};
+ghost use lib.ListN.{length};
+ghost use Rattle.octets.specs.Octets.{put};
+ghost use Rattle.answer.specs.declared.Answer.the-variants.{Short};
+ghost use Rattle.answer.specs.Paper.{written};
+ghost use Rattle.outer_header_creation.specs.OuterHeaderCreation.{flagsOf, byteOf, asked, sends, endsOf, Rising, meaning, wire, teidOf, untagged, bare, gtpuIpv4, gtpuIpv6, udpIpv4, withCtag, withStag, read, refused};
+
+// What the outer header is to have.
+pub struct OuterHeaderCreationFlags {
+    pub gtpu_udp_ipv4: bool,
+    pub gtpu_udp_ipv6: bool,
+    pub udp_ipv4: bool,
+    pub udp_ipv6: bool,
+    pub ipv4: bool,
+    pub ipv6: bool,
+    pub ctag: bool,
+    pub stag: bool,
+}
+
+pub struct OuterHeaderCreation {
+    pub description: OuterHeaderCreationFlags,
+    pub teid: MaybeTeid,
+    pub ipv4_address: MaybeIpv4,
+    pub ipv6_address: MaybeIpv6,
+    pub port_number: MaybeU16,
+    pub ctag: MaybeU32,
+    pub stag: MaybeU32,
+}
+
+// What reading a payload answers; the record is empty where it is refused.
+pub struct OuterHeaderCreationRead {
+    pub answer: Answer,
+    pub used: usize,
+    pub record: OuterHeaderCreation,
+}
+
+// Which of the fields are in a payload.
+struct Sent {
+    teid: bool,
+    ipv4: bool,
+    ipv6: bool,
+    port: bool,
+    ctag: bool,
+    stag: bool,
+}
+
+// Where each field ends.
+struct Ends {
+    teid: usize,
+    ipv4: usize,
+    ipv6: usize,
+    port: usize,
+    ctag: usize,
+    stag: usize,
+}
+
+// Flags are joined in calls of their own, so that the ways through a reader or a writer don't part there.
+fn both(a: bool, b: bool) -> bool
+    ensures { λ r. ⌜ r ≡ a && b ⌝ }
+{
+    a && b
+}
+
+fn either(a: bool, b: bool) -> bool
+    ensures { λ r. ⌜ r ≡ a || b ⌝ }
+{
+    a || b
+}
+
+// The ends of the fields in a row, behind the two bytes that come first.
+fn ends_of(sent: Sent) -> Ends
+    ensures { λ r. ⌜ r ≡ endsOf sent ⌝ }
+    ensures { λ r. ⌜ Rising r ⌝ }
+{
+    let teid = OuterHeaderCreation::MIN_LEN + octets::under(sent.teid, 4);
+    let ipv4 = teid + octets::under(sent.ipv4, 4);
+    let ipv6 = ipv4 + octets::under(sent.ipv6, 16);
+    let port = ipv6 + octets::under(sent.port, 2);
+    let ctag = port + octets::under(sent.ctag, 3);
+    let stag = ctag + octets::under(sent.stag, 3);
+    Ends {
+        teid,
+        ipv4,
+        ipv6,
+        port,
+        ctag,
+        stag,
+    }
+}
+
+// The TEID of these bytes, absent where there are none.
+fn teid_of(bs: &[u8]) -> MaybeTeid
+    ensures { λ r. ⌜ r ≡ teidOf (now (bs .entry)) ⌝ }
+{
+    let number = MaybeU32::of(bs);
+    MaybeTeid {
+        given: number.given,
+        value: Teid(number.value),
+    }
+}
+
+// A refused read.
+fn refused(answer: Answer) -> OuterHeaderCreationRead
+    ensures { λ r. ⌜ r ≡ refused answer ⌝ }
+{
+    let record = OuterHeaderCreation::new(OuterHeaderCreationFlags::EMPTY);
+    OuterHeaderCreationRead {
+        answer,
+        used: 0,
+        record,
+    }
+}
+
+// A read that is refused since a field isn't all there.
+fn short(field: u8, expected: usize, actual: usize) -> OuterHeaderCreationRead
+    ensures { λ r. ⌜ r ≡ refused (Short field expected actual) ⌝ }
+{
+    refused(Answer::Short {
+        field,
+        expected,
+        actual,
+    })
+}
+
+impl OuterHeaderCreationFlags {
+    pub const EMPTY: OuterHeaderCreationFlags = OuterHeaderCreationFlags {
+        gtpu_udp_ipv4: false,
+        gtpu_udp_ipv6: false,
+        udp_ipv4: false,
+        udp_ipv6: false,
+        ipv4: false,
+        ipv6: false,
+        ctag: false,
+        stag: false,
+    };
+
+    // The empty set.
+    pub fn new() -> OuterHeaderCreationFlags
+        ensures { λ r. ⌜ r ≡ flagsOf 0x00 ⌝ }
+    {
+        OuterHeaderCreationFlags::EMPTY
+    }
+
+    pub fn gtpu_ipv4() -> OuterHeaderCreationFlags
+        ensures { λ r. ⌜ r ≡ flagsOf 0x01 ⌝ }
+    {
+        let mut flags = OuterHeaderCreationFlags::EMPTY;
+        flags.gtpu_udp_ipv4 = true;
+        flags
+    }
+
+    pub fn gtpu_ipv6() -> OuterHeaderCreationFlags
+        ensures { λ r. ⌜ r ≡ flagsOf 0x02 ⌝ }
+    {
+        let mut flags = OuterHeaderCreationFlags::EMPTY;
+        flags.gtpu_udp_ipv6 = true;
+        flags
+    }
+
+    pub fn udp_ipv4() -> OuterHeaderCreationFlags
+        ensures { λ r. ⌜ r ≡ flagsOf 0x04 ⌝ }
+    {
+        let mut flags = OuterHeaderCreationFlags::EMPTY;
+        flags.udp_ipv4 = true;
+        flags
+    }
+
+    pub fn udp_ipv6() -> OuterHeaderCreationFlags
+        ensures { λ r. ⌜ r ≡ flagsOf 0x08 ⌝ }
+    {
+        let mut flags = OuterHeaderCreationFlags::EMPTY;
+        flags.udp_ipv6 = true;
+        flags
+    }
+
+    // The flags of byte 0.
+    fn of(b: u8) -> OuterHeaderCreationFlags
+        ensures { λ r. ⌜ r ≡ flagsOf b ⌝ }
+    {
+        OuterHeaderCreationFlags {
+            gtpu_udp_ipv4: octets::bit(b, 0),
+            gtpu_udp_ipv6: octets::bit(b, 1),
+            udp_ipv4: octets::bit(b, 2),
+            udp_ipv6: octets::bit(b, 3),
+            ipv4: octets::bit(b, 4),
+            ipv6: octets::bit(b, 5),
+            ctag: octets::bit(b, 6),
+            stag: octets::bit(b, 7),
+        }
+    }
+
+    // Byte 0 of the flags.
+    fn byte(self) -> u8
+        ensures { λ r. ⌜ r ≡ byteOf self ⌝ }
+    {
+        octets::flag_byte(
+            self.gtpu_udp_ipv4,
+            self.gtpu_udp_ipv6,
+            self.udp_ipv4,
+            self.udp_ipv6,
+            self.ipv4,
+            self.ipv6,
+            self.ctag,
+            self.stag,
+        )
+    }
+
+    // The fields that the flags ask for.
+    fn asked(self) -> Sent
+        ensures { λ r. ⌜ r ≡ asked self ⌝ }
+    {
+        Sent {
+            teid: either(self.gtpu_udp_ipv4, self.gtpu_udp_ipv6),
+            ipv4: either(either(self.gtpu_udp_ipv4, self.udp_ipv4), self.ipv4),
+            ipv6: either(either(self.gtpu_udp_ipv6, self.udp_ipv6), self.ipv6),
+            port: either(self.udp_ipv4, self.udp_ipv6),
+            ctag: self.ctag,
+            stag: self.stag,
+        }
+    }
+}
+
+impl OuterHeaderCreation {
+    // How long the written forms of records that a reader gives are, at least and at most.
+    pub const MIN_LEN: usize = 2;
+
+    pub const MAX_LEN: usize = 34;
+
+    // A record of these parts, without tags.
+    fn untagged(
+        description: OuterHeaderCreationFlags,
+        teid: MaybeTeid,
+        ipv4_address: MaybeIpv4,
+        ipv6_address: MaybeIpv6,
+        port_number: MaybeU16,
+    ) -> OuterHeaderCreation
+        ensures { λ r. ⌜ r ≡ untagged description teid «ipv4_address» «ipv6_address» «port_number» ⌝ }
+    {
+        let ctag = MaybeU32::ABSENT;
+        let stag = MaybeU32::ABSENT;
+        OuterHeaderCreation {
+            description,
+            teid,
+            ipv4_address,
+            ipv6_address,
+            port_number,
+            ctag,
+            stag,
+        }
+    }
+
+    // The flags only.
+    pub fn new(description: OuterHeaderCreationFlags) -> OuterHeaderCreation
+        ensures { λ r. ⌜ r ≡ bare description ⌝ }
+    {
+        OuterHeaderCreation::untagged(
+            description,
+            MaybeTeid::ABSENT,
+            MaybeIpv4::ABSENT,
+            MaybeIpv6::ABSENT,
+            MaybeU16::ABSENT,
+        )
+    }
+
+    pub fn gtpu_ipv4(teid: Teid, ipv4: [u8; 4]) -> OuterHeaderCreation
+        ensures { λ r. ⌜ r ≡ gtpuIpv4 teid ipv4 ⌝ }
+    {
+        OuterHeaderCreation::untagged(
+            OuterHeaderCreationFlags::gtpu_ipv4(),
+            MaybeTeid::new(teid),
+            MaybeIpv4::new(ipv4),
+            MaybeIpv6::ABSENT,
+            MaybeU16::ABSENT,
+        )
+    }
+
+    pub fn gtpu_ipv6(teid: Teid, ipv6: [u8; 16]) -> OuterHeaderCreation
+        ensures { λ r. ⌜ r ≡ gtpuIpv6 teid ipv6 ⌝ }
+    {
+        OuterHeaderCreation::untagged(
+            OuterHeaderCreationFlags::gtpu_ipv6(),
+            MaybeTeid::new(teid),
+            MaybeIpv4::ABSENT,
+            MaybeIpv6::new(ipv6),
+            MaybeU16::ABSENT,
+        )
+    }
+
+    pub fn udp_ipv4(ipv4: [u8; 4], port: u16) -> OuterHeaderCreation
+        ensures { λ r. ⌜ r ≡ udpIpv4 ipv4 port ⌝ }
+    {
+        OuterHeaderCreation::untagged(
+            OuterHeaderCreationFlags::udp_ipv4(),
+            MaybeTeid::ABSENT,
+            MaybeIpv4::new(ipv4),
+            MaybeIpv6::ABSENT,
+            MaybeU16::new(port),
+        )
+    }
+
+    // A tag sets its flag; its low 24 bits are kept.
+    pub fn with_ctag(mut self, ctag: u32) -> OuterHeaderCreation
+        ensures { λ r. ⌜ r ≡ withCtag self ctag ⌝ }
+    {
+        let tag = MaybeU32 {
+            given: true,
+            value: ctag % 16777216,
+        };
+        self.description.ctag = true;
+        self.ctag = tag;
+        self
+    }
+
+    pub fn with_stag(mut self, stag: u32) -> OuterHeaderCreation
+        ensures { λ r. ⌜ r ≡ withStag self stag ⌝ }
+    {
+        let tag = MaybeU32 {
+            given: true,
+            value: stag % 16777216,
+        };
+        self.description.stag = true;
+        self.stag = tag;
+        self
+    }
+
+    pub fn unmarshal(payload: &[u8]) -> OuterHeaderCreationRead
+        ensures { λ r. ⌜ r ≡ read (now (payload .entry)) ⌝ }
+    {
+        let n = payload.len();
+        if 65535 < n {
+            return refused(Answer::TooLong { length: n });
+        }
+        if n < OuterHeaderCreation::MIN_LEN {
+            return short(0, OuterHeaderCreation::MIN_LEN, n);
+        }
+        let description = OuterHeaderCreationFlags::of(payload[0]);
+        let ends = ends_of(description.asked());
+        let end_teid = ends.teid;
+        if n < end_teid {
+            return short(6, end_teid, n);
+        }
+        let end_ipv4 = ends.ipv4;
+        if n < end_ipv4 {
+            return short(1, end_ipv4, n);
+        }
+        let end_ipv6 = ends.ipv6;
+        if n < end_ipv6 {
+            return short(2, end_ipv6, n);
+        }
+        let end_port = ends.port;
+        if n < end_port {
+            return short(7, end_port, n);
+        }
+        let end_ctag = ends.ctag;
+        if n < end_ctag {
+            return short(8, end_ctag, n);
+        }
+        let end_stag = ends.stag;
+        if n < end_stag {
+            return short(9, end_stag, n);
+        }
+        let teid = teid_of(&payload[2..end_teid]);
+        let ipv4_address = MaybeIpv4::of(&payload[end_teid..end_ipv4]);
+        let ipv6_address = MaybeIpv6::of(&payload[end_ipv4..end_ipv6]);
+        let port_number = MaybeU16::of(&payload[end_ipv6..end_port]);
+        let ctag = MaybeU32::of(&payload[end_port..end_ctag]);
+        let stag = MaybeU32::of(&payload[end_ctag..end_stag]);
+        OuterHeaderCreationRead {
+            answer: Answer::Done,
+            used: end_stag,
+            record: OuterHeaderCreation {
+                description,
+                teid,
+                ipv4_address,
+                ipv6_address,
+                port_number,
+                ctag,
+                stag,
+            },
+        }
+    }
+
+    // The fields that are written: those that the flags ask for, an address or a tag only where it is given.
+    fn sends(self) -> Sent
+        ensures { λ r. ⌜ r ≡ sends self ⌝ }
+    {
+        let description = self.description;
+        let asked = description.asked();
+        Sent {
+            teid: asked.teid,
+            ipv4: both(asked.ipv4, self.ipv4_address.given),
+            ipv6: both(asked.ipv6, self.ipv6_address.given),
+            port: asked.port,
+            ctag: both(asked.ctag, self.ctag.given),
+            stag: both(asked.stag, self.stag.given),
+        }
+    }
+
+    pub fn marshal(self, out: &mut [u8]) -> Written
+        ensures { λ r. ⌜ r ≡ written (length (wire (meaning self))) (length (now (out .entry))) ⌝ }
+        ensures { λ r. ⌜ now (out .exit) ≡ put (now (out .entry)) 0 (wire (meaning self)) ⌝ }
+    {
+        let teid = octets::under(self.teid.given, self.teid.value.0 as usize) as u64;
+        let port = octets::under(self.port_number.given, self.port_number.value as usize) as u64;
+        let ctag = self.ctag.value as u64;
+        let stag = self.stag.value as u64;
+        let description = self.description;
+        let sends = self.sends();
+        let ends = ends_of(sends);
+        let len = ends.stag;
+        if out.len() < len {
+            return Written {
+                answer: Answer::NoRoom { needed: len },
+                len: 0,
+            };
+        }
+        octets::put_byte(out, 0, description.byte());
+        octets::put_byte(out, 1, 0);
+        octets::put_number_given(out, 2, 4, sends.teid, teid);
+        octets::put_given(out, ends.teid, sends.ipv4, &self.ipv4_address.octets);
+        octets::put_given(out, ends.ipv4, sends.ipv6, &self.ipv6_address.octets);
+        octets::put_number_given(out, ends.ipv6, 2, sends.port, port);
+        octets::put_number_given(out, ends.port, 3, sends.ctag, ctag);
+        octets::put_number_given(out, ends.ctag, 3, sends.stag, stag);
+        Written {
+            answer: Answer::Done,
+            len,
+        }
+    }
+}

@@ -1,0 +1,161 @@
+-- The row of eight steps comes to `readFields`: one law for a text, one for a list, and the row. No contract cites this file.
+use Prim.Native.Nat.{ℕ, _+_, _-_, _≤_, _<_}
+use mathlib.Core.Path.{_≡_, ap, sym, refl, _∙_}
+use mathlib.Core.List.{List}
+use mathlib.Core.Bool.{Bool, true, false, not, _||_}
+use borrow.Author.Tests.{le-leb, lt-leb, not-true, not-false}
+use lib.ListN.{length, getD}
+use Rattle.octets.specs.Octets.{pick, bit}
+use Rattle.answer.specs.declared.Answer.{Answer}
+use Rattle.answer.specs.declared.Answer.the-variants.{Done, Short, TooLong}
+use Rattle.pfd_contents.specs.PfdContents.{fieldAt, entries, noText, textOf, noList, runOf, pfdOf, onField, onEntries, answerOf, refused, accepted, Step, took, broke, _into_, text, list, readFields, read}
+use Rattle.pfd_contents.specs.Steps.{textTo, listTo, textStep, listStep, finished}
+use Rattle.pfd_contents.specs.declared.MaybeText.{MaybeText}
+use Rattle.pfd_contents.specs.declared.TextList.{TextList}
+use Rattle.pfd_contents.specs.declared.PfdContents.{PfdContents}
+use Rattle.pfd_contents.specs.declared.read.PfdContentsRead.{PfdContentsRead}
+use Rattle.pfd_contents.specs.declared.fields.Fault.{Fault}
+use Rattle.pfd_contents.specs.declared.fields.Field.{Field}
+use Rattle.pfd_contents.specs.declared.fields.Field.the-variants.{Absent, Whole, Faulty}
+use Rattle.pfd_contents.specs.declared.fields.Entries.{Entries}
+use Rattle.pfd_contents.specs.declared.fields.Entries.the-variants.{Run, Broken}
+use Rattle.pfd_contents.specs.declared.read.Walk.{Walk}
+use Rattle.pfd_contents.specs.declared.read.Walk.the-variants.{At, Stopped}
+use Rattle.pfd_contents.specs.declared.read.TextStep.{TextStep}
+use Rattle.pfd_contents.specs.declared.read.ListStep.{ListStep}
+
+-- ---- one step, by what the code found
+
+module _ (s : List ℕ) (at : ℕ) where
+  pub text-is : (f g : Field) → f ≡ fieldAt s at → f ≡ g → textTo (onField g (took noText at) (λ p n. took (textOf p n) (p + n)) broke) ≡ textTo (text s true at)
+  unfolding text
+  text-is f g e k = rw (← e, k)
+
+  pub list-is : (later : Bool) (most : ℕ) (f g : Entries) → most ≡ pick later 1 (length s) → f ≡ entries most s at 0 → f ≡ g
+      → listTo (onEntries g (λ count next. took (runOf at next count) next) broke) ≡ listTo (list s true later at)
+  unfolding list
+  list-is later most f g m e k = rw (← m, ← e, k)
+
+module _ (s : List ℕ) (w : Walk) (b on : Bool) (e : on ≡ b) where
+  pub text-off : not on ≡ true → record { walk = w; text = noText } ≡ textStep s w b
+  unfolding textStep text
+  text-off h = rw (← e, not-true on h) (go w)
+    where
+      go : (w : Walk) → record { walk = w; text = noText } ≡ textStep s w false
+      go (At at) = refl
+      go (Stopped fault) = refl
+
+  pub text-on : (at : ℕ) (r : TextStep) → not on ≡ false → w ≡ At at → r ≡ textTo (text s true at) → r ≡ textStep s w b
+  unfolding textStep
+  text-on at r h k q = rw (← e, not-false on h, k) q
+
+  pub text-after : (fault : Fault) → w ≡ Stopped fault → record { walk = Stopped fault; text = noText } ≡ textStep s w b
+  unfolding textStep
+  text-after fault k = rw k
+
+  module _ (later : Bool) where
+    pub list-off : not on ≡ true → record { walk = w; list = noList } ≡ listStep s w b later
+    unfolding listStep list
+    list-off h = rw (← e, not-true on h) (go w)
+      where
+        go : (w : Walk) → record { walk = w; list = noList } ≡ listStep s w false later
+        go (At at) = refl
+        go (Stopped fault) = refl
+
+    pub list-on : (at : ℕ) (r : ListStep) → not on ≡ false → w ≡ At at → r ≡ listTo (list s true later at) → r ≡ listStep s w b later
+    unfolding listStep
+    list-on at r h k q = rw (← e, not-false on h, k) q
+
+    pub list-after : (fault : Fault) → w ≡ Stopped fault → record { walk = Stopped fault; list = noList } ≡ listStep s w b later
+    unfolding listStep
+    list-after fault k = rw k
+
+pub finish-at : (w : Walk) (r : PfdContents) (at : ℕ) → w ≡ At at → accepted at r ≡ finished w r
+unfolding finished
+finish-at w r at k = rw k
+
+pub finish-stopped : (w : Walk) (r : PfdContents) (fault : Fault) (a : Answer) (q : PfdContentsRead) → w ≡ Stopped fault → a ≡ answerOf fault → q ≡ refused a → q ≡ finished w r
+unfolding finished
+finish-stopped w r fault a q k e p = rw (k, ← e) p
+
+-- ---- the row
+
+-- what is read from where a walk came to
+abbrev run : Walk → (ℕ → PfdContentsRead) → PfdContentsRead
+run (At at) rest = rest at
+run (Stopped fault) rest = refused (answerOf fault)
+
+module _ (s : List ℕ) where
+  text-law : (w : Walk) (b : Bool) (rest : MaybeText → ℕ → PfdContentsRead) {t : TextStep} → t ≡ textStep s w b
+      → run w (λ at. text s b at into rest) ≡ run (t .walk) (rest (t .text))
+  unfolding textStep
+  text-law w b rest e = go w ∙ ap (λ (t : TextStep). run (t .walk) (rest (t .text))) (sym e)
+    where
+      by : (x : Step MaybeText) → (x into rest) ≡ run (textTo x .walk) (rest (textTo x .text))
+      by (took x at) = refl
+      by (broke fault) = refl
+
+      go : (w : Walk) → run w (λ at. text s b at into rest) ≡ run (textStep s w b .walk) (rest (textStep s w b .text))
+      go (At at) = by (text s b at)
+      go (Stopped fault) = refl
+
+  list-law : (w : Walk) (b later : Bool) (rest : TextList → ℕ → PfdContentsRead) {t : ListStep} → t ≡ listStep s w b later
+      → run w (λ at. list s b later at into rest) ≡ run (t .walk) (rest (t .list))
+  unfolding listStep
+  list-law w b later rest e = go w ∙ ap (λ (t : ListStep). run (t .walk) (rest (t .list))) (sym e)
+    where
+      by : (x : Step TextList) → (x into rest) ≡ run (listTo x .walk) (rest (listTo x .list))
+      by (took x at) = refl
+      by (broke fault) = refl
+
+      go : (w : Walk) → run w (λ at. list s b later at into rest) ≡ run (listStep s w b later .walk) (rest (listStep s w b later .list))
+      go (At at) = by (list s b later at)
+      go (Stopped fault) = refl
+
+pub fields-read : (s : List ℕ) (f : ℕ) {flow url domain custom protocol : TextStep} {flows urls names : ListStep} {u n m : Bool}
+    → u ≡ bit 6 f
+    → n ≡ bit 7 f
+    → m ≡ (u || n)
+    → flow ≡ textStep s (At 2) (bit 0 f)
+    → url ≡ textStep s (flow .walk) (bit 1 f)
+    → domain ≡ textStep s (url .walk) (bit 2 f)
+    → custom ≡ textStep s (domain .walk) (bit 3 f)
+    → protocol ≡ textStep s (custom .walk) (bit 4 f)
+    → flows ≡ listStep s (protocol .walk) (bit 5 f) m
+    → urls ≡ listStep s (flows .walk) (bit 6 f) n
+    → names ≡ listStep s (urls .walk) (bit 7 f) false
+    → finished (names .walk) (pfdOf f (flow .text) (url .text) (domain .text) (custom .text) (protocol .text) (flows .list) (urls .list) (names .list)) ≡ readFields s f
+unfolding readFields finished
+fields-read s f {flow} {url} {domain} {custom} {protocol} {flows} {urls} {names} eu en em e₁ e₂ e₃ e₄ e₅ e₆ e₇ e₈ =
+    let f₆ : flows ≡ listStep s (protocol .walk) (bit 5 f) (bit 6 f || bit 7 f) = cc in
+    let f₇ : urls ≡ listStep s (flows .walk) (bit 6 f) (bit 7 f) = cc in
+    let r = pfdOf f (flow .text) (url .text) (domain .text) (custom .text) (protocol .text) (flows .list) (urls .list) (names .list) in
+    end (names .walk) r
+    ∙ sym
+    (text-law s _ _ _ e₁
+    ∙ text-law s _ _ _ e₂
+    ∙ text-law s _ _ _ e₃
+    ∙ text-law s _ _ _ e₄
+    ∙ text-law s _ _ _ e₅
+    ∙ list-law s _ _ _ _ f₆
+    ∙ list-law s _ _ _ _ f₇
+    ∙ list-law s _ _ _ _ e₈)
+  where
+    end : (w : Walk) (r : PfdContents) → finished w r ≡ run w (λ at. accepted at r)
+    end (At at) r = refl
+    end (Stopped fault) r = refl
+
+-- ---- the three ways through the whole
+
+module _ (s : List ℕ) (r : PfdContentsRead) where
+  pub too-long : 65535 < length s → r ≡ refused (TooLong (length s)) → r ≡ read s
+  unfolding read
+  too-long h q = rw (lt-leb _ _ h) q
+
+  pub too-short : length s ≤ 65535 → length s < 2 → r ≡ refused (Short 0 2 (length s)) → r ≡ read s
+  unfolding read
+  too-short h k q = rw (le-leb _ _ h, lt-leb _ _ k) q
+
+  pub enough : length s ≤ 65535 → 2 ≤ length s → r ≡ readFields s (getD s 0 0) → r ≡ read s
+  unfolding read
+  enough h k q = rw (le-leb _ _ h, le-leb _ _ k) q

@@ -1,0 +1,35 @@
+-- `pfd_contents::PfdContents::domain_and_protocol` meets its contract: two setters and a build.
+use Rattle.pfd_contents.specs.PfdContents.{textOf}
+use Rattle.pfd_contents.specs.Builder.{withDomain, withProtocol}
+use Rattle.pfd_contents.specs.declared.build.PfdContentsBuilder.{PfdContentsBuilder}
+use Rattle.pfd_contents.proofs.Building.{set-two}
+use borrow.Author.Needs.{needs}
+use Rattle.pfd_contents.proofs.PfdContents.domain_and_protocol.Statement.{statement}
+use Rattle.pfd_contents.proofs.PfdContents.domain_and_protocol.Tie as tie
+
+new-requires : tie.Need-new-requires
+new-requires c κs = search needs
+
+domain-name-requires : tie.Need-domain-name-requires
+domain-name-requires c κs = search needs
+
+domain-name-protocol-requires : tie.Need-domain-name-protocol-requires
+domain-name-protocol-requires c κs = search needs
+
+build-requires : tie.Need-build-requires
+build-requires c κs = search needs
+
+returns : tie.Need-returns
+returns c =
+    let a = c .before .before .before .before .before .args in
+    set-two (λ (b : PfdContentsBuilder). withDomain b (textOf (a .domain-place) (a .domain-len))) (λ (b : PfdContentsBuilder). withProtocol b (textOf (a .protocol-place) (a .protocol-len))) _ _ _ _ _ (c .before .before .before .new .ensures) (c .before .before .domain-name .ensures) (c .before .domain-name-protocol .ensures) (c .build .ensures)
+
+pub domain-and-protocol-spec : {M : Type 1} → statement M
+domain-and-protocol-spec =
+    tie.close
+    (tie.spec
+    new-requires
+    domain-name-requires
+    domain-name-protocol-requires
+    build-requires
+    returns)

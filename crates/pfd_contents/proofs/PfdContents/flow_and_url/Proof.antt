@@ -1,0 +1,29 @@
+-- `pfd_contents::PfdContents::flow_and_url` meets its contract: two setters and a build.
+use Rattle.pfd_contents.specs.PfdContents.{textOf}
+use Rattle.pfd_contents.specs.Builder.{withFlow, withUrl}
+use Rattle.pfd_contents.specs.declared.build.PfdContentsBuilder.{PfdContentsBuilder}
+use Rattle.pfd_contents.proofs.Building.{set-two}
+use borrow.Author.Needs.{needs}
+use Rattle.pfd_contents.proofs.PfdContents.flow_and_url.Statement.{statement}
+use Rattle.pfd_contents.proofs.PfdContents.flow_and_url.Tie as tie
+
+new-requires : tie.Need-new-requires
+new-requires c κs = search needs
+
+flow-description-requires : tie.Need-flow-description-requires
+flow-description-requires c κs = search needs
+
+url-requires : tie.Need-url-requires
+url-requires c κs = search needs
+
+build-requires : tie.Need-build-requires
+build-requires c κs = search needs
+
+returns : tie.Need-returns
+returns c =
+    let a = c .before .before .before .before .before .args in
+    set-two (λ (b : PfdContentsBuilder). withFlow b (textOf (a .flow-place) (a .flow-len))) (λ (b : PfdContentsBuilder). withUrl b (textOf (a .url-place) (a .url-len))) _ _ _ _ _ (c .before .before .before .new .ensures) (c .before .before .flow-description .ensures) (c .before .url .ensures) (c .build .ensures)
+
+pub flow-and-url-spec : {M : Type 1} → statement M
+flow-and-url-spec =
+    tie.close (tie.spec new-requires flow-description-requires url-requires build-requires returns)

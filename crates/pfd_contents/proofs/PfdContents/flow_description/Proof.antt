@@ -1,0 +1,26 @@
+-- `pfd_contents::PfdContents::flow_description` meets its contract: one setter and a build.
+use Rattle.pfd_contents.specs.PfdContents.{textOf}
+use Rattle.pfd_contents.specs.Builder.{withFlow}
+use Rattle.pfd_contents.specs.declared.build.PfdContentsBuilder.{PfdContentsBuilder}
+use Rattle.pfd_contents.proofs.Building.{set-one}
+use borrow.Author.Needs.{needs}
+use Rattle.pfd_contents.proofs.PfdContents.flow_description.Statement.{statement}
+use Rattle.pfd_contents.proofs.PfdContents.flow_description.Tie as tie
+
+new-requires : tie.Need-new-requires
+new-requires c κs = search needs
+
+flow-description-requires : tie.Need-flow-description-requires
+flow-description-requires c κs = search needs
+
+build-requires : tie.Need-build-requires
+build-requires c κs = search needs
+
+returns : tie.Need-returns
+returns c =
+    let a = c .before .before .before .before .args in
+    set-one (λ (b : PfdContentsBuilder). withFlow b (textOf (a .place) (a .len))) _ _ _ _ (c .before .before .new .ensures) (c .before .flow-description .ensures) (c .build .ensures)
+
+pub flow-description-spec : {M : Type 1} → statement M
+flow-description-spec =
+    tie.close (tie.spec new-requires flow-description-requires build-requires returns)

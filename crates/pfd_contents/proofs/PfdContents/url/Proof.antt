@@ -1,0 +1,25 @@
+-- `pfd_contents::PfdContents::url` meets its contract: one setter and a build.
+use Rattle.pfd_contents.specs.PfdContents.{textOf}
+use Rattle.pfd_contents.specs.Builder.{withUrl}
+use Rattle.pfd_contents.specs.declared.build.PfdContentsBuilder.{PfdContentsBuilder}
+use Rattle.pfd_contents.proofs.Building.{set-one}
+use borrow.Author.Needs.{needs}
+use Rattle.pfd_contents.proofs.PfdContents.url.Statement.{statement}
+use Rattle.pfd_contents.proofs.PfdContents.url.Tie as tie
+
+new-requires : tie.Need-new-requires
+new-requires c κs = search needs
+
+url-requires : tie.Need-url-requires
+url-requires c κs = search needs
+
+build-requires : tie.Need-build-requires
+build-requires c κs = search needs
+
+returns : tie.Need-returns
+returns c =
+    let a = c .before .before .before .before .args in
+    set-one (λ (b : PfdContentsBuilder). withUrl b (textOf (a .place) (a .len))) _ _ _ _ (c .before .before .new .ensures) (c .before .url .ensures) (c .build .ensures)
+
+pub url-spec : {M : Type 1} → statement M
+url-spec = tie.close (tie.spec new-requires url-requires build-requires returns)

@@ -1,0 +1,3 @@
+pub mod PfdContents
+pub mod Steps
+pub mod Builder

@@ -1,0 +1,110 @@
+// F-SEID: the answers of its payloads and its record lines.
+use crate::parts::part;
+use crate::print;
+use crate::token;
+use fseid::Fseid;
+use octets::MaybeIpv4;
+use octets::MaybeIpv6;
+use types::Seid;
+
+fn fields(out: &mut [u8], at: usize, record: Fseid) -> usize {
+    let end = print::flag(out, at, b"rec=S v6=", record.v6);
+    let end = print::flag(out, end, b" v4=", record.v4);
+    let end = print::number(out, end, b" seid=", record.seid.value());
+    let end = print::ipv4(out, end, b" ipv4=", record.ipv4_address);
+    let end = print::ipv6(out, end, b" ipv6=", record.ipv6_address);
+    print::end_of_line(out, end)
+}
+
+pub(crate) fn payload(bs: &[u8], wire: &mut [u8], out: &mut [u8], at: usize) -> usize {
+    let read = Fseid::unmarshal(bs);
+    let answer = read.answer;
+    if answer.number() != 0 {
+        return print::unread(out, at, answer);
+    }
+    let record = read.record;
+    let written = record.marshal(wire);
+    let end = print::done(out, at, read.used, part(wire, 0, written.len));
+    fields(out, end, record)
+}
+
+fn written(record: Fseid, wire: &mut [u8], out: &mut [u8], at: usize) -> usize {
+    let written = record.marshal(wire);
+    let answer = written.answer;
+    if answer.number() != 0 {
+        return print::unmade(out, at, answer);
+    }
+    let end = print::done(out, at, written.len, part(wire, 0, written.len));
+    fields(out, end, record)
+}
+
+// The tokens of a record line. It is good where it has no others.
+struct Given {
+    is_good: bool,
+    has_flags: bool,
+    flags: u8,
+    seid: Seid,
+    ipv4_address: MaybeIpv4,
+    ipv6_address: MaybeIpv6,
+}
+
+fn tokens(line: &[u8]) -> Given {
+    let mut seid = [0u8; 8];
+    let has_seid = token::value(line, b"seid=", &mut seid);
+    let flags = token::maybe_u8(line, b"flags=");
+    let ipv4_address = token::ipv4(line);
+    let ipv6_address = token::ipv6(line);
+    let values = octets::under(flags.given, 1)
+        + octets::under(has_seid, 1)
+        + octets::under(ipv4_address.given, 1)
+        + octets::under(ipv6_address.given, 1);
+    Given {
+        is_good: token::has_all(line, values),
+        has_flags: flags.given,
+        flags: flags.value,
+        seid: Seid(octets::number(&seid)),
+        ipv4_address,
+        ipv6_address,
+    }
+}
+
+// The record as its tokens have it.
+fn plain(t: Given, wire: &mut [u8], out: &mut [u8], at: usize) -> usize {
+    if 3 < t.flags {
+        return print::other(out, at);
+    }
+    let seid = t.seid;
+    let ipv4_address = t.ipv4_address;
+    let ipv6_address = t.ipv6_address;
+    let record = Fseid {
+        v6: octets::bit(t.flags, 0),
+        v4: octets::bit(t.flags, 1),
+        seid,
+        ipv4_address,
+        ipv6_address,
+    };
+    written(record, wire, out, at)
+}
+
+// The record of the constructor, which takes no flags.
+fn made(t: Given, wire: &mut [u8], out: &mut [u8], at: usize) -> usize {
+    if t.has_flags {
+        return print::other(out, at);
+    }
+    let record = Fseid::new(t.seid, t.ipv4_address, t.ipv6_address);
+    written(record, wire, out, at)
+}
+
+pub(crate) fn record(line: &[u8], wire: &mut [u8], out: &mut [u8], at: usize) -> usize {
+    let t = tokens(line);
+    if !t.is_good {
+        return print::other(out, at);
+    }
+    if check::same(token::head(line), b"S") {
+        return plain(t, wire, out, at);
+    }
+    if check::same(token::head(line), b"S.new") {
+        return made(t, wire, out, at);
+    }
+    print::other(out, at)
+}

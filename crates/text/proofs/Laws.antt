@@ -1,0 +1,112 @@
+-- Laws of the good beginning: how the walk goes on, and where it ends.
+use mathlib.Core.Path.{_≡_, refl, sym, ap, _∙_}
+use mathlib.Core.Bool.{Bool, true, false, cond, not}
+use mathlib.Core.List.{List, [], _∷_}
+use Prim.Native.Nat.{ℕ, zero, suc, _+_, _-_, _≤_, _<_, max, zero-le}
+use native.Mathlib.Omega.{arith}
+use borrow.Author.Tests.{eqb-true, not-true, not-false}
+use lib.Bits.{bitOr, or-add-and, and-le-l, and-le-r}
+use lib.Dec.{eqb}
+use lib.ListN.{length, getD, drop, length-drop, drop-of-length-le}
+use lib.Seq.{drop-drop}
+use Rattle.text.specs.declared.Checked.{Checked}
+use Rattle.text.specs.Utf8.{Range, rows, agree, seqLen, walk, goodLen, best, badLen, checked}
+use Rattle.text.specs.Steps.{Starts, Passed, Stopped}
+use Rattle.text.proofs.Agree.{agree-fits}
+use Rattle.text.proofs.Table.{starts-ascii}
+
+-- ---- goodLen
+
+seq-fits : (l : List (List Range)) (s : List ℕ) → seqLen l s ≤ length s
+unfolding seqLen
+seq-fits [] s = zero-le
+seq-fits (row ∷ l) s = go (eqb (agree row s) (length row)) refl (seq-fits l s)
+  where
+    go : (t : Bool) → eqb (agree row s) (length row) ≡ t → seqLen l s ≤ length s → cond t (length row) (seqLen l s) ≤ length s
+    go true e h = omega (arith, eqb-true (agree row s) (length row) e, agree-fits row s)
+    go false e h = h
+
+walk-none : (k : ℕ) (s : List ℕ) → seqLen rows s ≡ 0 → walk k s ≡ 0
+unfolding walk
+walk-none zero s e = refl
+walk-none (suc k) s e = rw (e, walk-none k s e)
+
+-- As many steps as the text has bytes are enough.
+walk-same : (k m : ℕ) (s : List ℕ) → length s ≤ k → length s ≤ m → walk k s ≡ walk m s
+unfolding walk
+walk-same zero zero s p q = refl
+walk-same zero (suc m) s p q = sym (walk-none (suc m) s (omega (arith, seq-fits rows s)))
+walk-same (suc k) zero s p q = walk-none (suc k) s (omega (arith, seq-fits rows s))
+walk-same (suc k) (suc m) s p q = go (seqLen rows s) refl (walk-same k m (drop (seqLen rows s) s))
+  where
+    rest : List ℕ
+    rest = drop (seqLen rows s) s
+
+    go : (n : ℕ) → seqLen rows s ≡ n → (length rest ≤ k → length rest ≤ m → walk k rest ≡ walk m rest) → walk (suc k) s ≡ walk (suc m) s
+    go zero e h = walk-none (suc k) s e ∙ sym (walk-none (suc m) s e)
+    go (suc n) e h = ap (λ (x : ℕ). seqLen rows s + x) (h (omega (arith, length-drop (seqLen rows s) s)) (omega (arith, length-drop (seqLen rows s) s)))
+
+pub good-step : (s : List ℕ) → goodLen s ≡ seqLen rows s + goodLen (drop (seqLen rows s) s)
+unfolding goodLen walk
+good-step s =
+    walk-same (length s) (suc (length s)) s (omega arith) (omega arith)
+    ∙ ap (λ (x : ℕ). seqLen rows s + x)
+    (walk-same (length s) (length (drop (seqLen rows s) s)) (drop (seqLen rows s) s) (omega (arith, length-drop (seqLen rows s) s)) (omega arith))
+
+pub good-none : (s : List ℕ) → seqLen rows s ≡ 0 → goodLen s ≡ 0
+unfolding goodLen
+good-none s e = walk-none (length s) s e
+
+walk-fits : (k : ℕ) (s : List ℕ) → walk k s ≤ length s
+unfolding walk
+walk-fits zero s = zero-le
+walk-fits (suc k) s =
+    omega (arith, seq-fits rows s, length-drop (seqLen rows s) s, walk-fits k (drop (seqLen rows s) s))
+
+-- What is good lies in the text.
+pub good-fits : (s : List ℕ) → goodLen s ≤ length s
+unfolding goodLen
+good-fits s = walk-fits (length s) s
+
+-- ---- the walk
+
+pub passed-none : (s : List ℕ) (at : ℕ) → at ≤ length s → Passed s at at
+passed-none s at p = record { forward = omega arith; inside = p; same = refl }
+
+pub passed-on : {s : List ℕ} {a b c : ℕ} → Passed s a b → Passed s b c → Passed s a c
+passed-on p q = record { forward = omega arith; inside = q .inside; same = p .same ∙ q .same }
+
+module _ (s : List ℕ) (at n : ℕ) (t : Bool) (found : Starts s at n t) where
+  pub passed-whole : not t ≡ false → Passed s at (at + n)
+  passed-whole e =
+      let is : seqLen rows (drop at s) ≡ n = found .only-whole ∙ rw (not-false t e) in
+      let step : goodLen (drop at s) ≡ n + goodLen (drop n (drop at s)) = rw is at (good-step (drop at s)) in
+      record { forward = omega arith; inside = found .inside; same = omega (arith, step, ap goodLen (drop-drop n at s)) }
+
+  pub stopped-at : not t ≡ true → Stopped s at n
+  stopped-at e = record { nothing = good-none (drop at s) (found .only-whole ∙ rw (not-true t e)); most = found .most }
+
+nothing-begun : (s : List ℕ) (at : ℕ) → length s ≤ at → 0 ≡ best rows (drop at s)
+unfolding best agree rows
+nothing-begun s at p = let e : drop at s ≡ [] = drop-of-length-le s p in rw e
+
+pub stopped-end : (s : List ℕ) (at : ℕ) → length s ≤ at → Stopped s at 0
+stopped-end s at p = record { nothing = omega (arith, good-fits (drop at s), length-drop at s); most = nothing-begun s at p }
+
+-- ---- ASCII
+
+pub passed-ascii : (s : List ℕ) (at : ℕ) → at < length s → getD s at 0 < 0x80 → Passed s at (at + 1)
+passed-ascii s at p q = passed-whole s at 1 true (starts-ascii s at p q) refl
+
+-- A bitwise or is ASCII only where both bytes are.
+pub or-ascii : (a b : ℕ) → bitOr a b < 0x80 → (a < 0x80) × (b < 0x80)
+or-ascii a b p = (omega (arith, or-add-and a b, and-le-r a b), omega (arith, or-add-and a b, and-le-l a b))
+
+-- ---- checked
+
+pub checked-of : (s : List ℕ) (at begun bad : ℕ) → Passed s 0 at → Stopped s at begun → bad ≡ cond (eqb begun (length s - at)) 0 (max 1 begun)
+    → _≡_ {A = Checked} (record { good = at; bad = bad }) (checked s)
+unfolding checked badLen
+checked-of s at begun bad p q b =
+    let good : goodLen s ≡ at = omega (arith, p .same, q .nothing) in
+    rw (good, length-drop, ← q .most, b)

@@ -1,0 +1,6 @@
+pub mod Agree
+pub mod Table
+pub mod Laws
+pub mod Longest
+pub mod Parts
+pub mod Examples

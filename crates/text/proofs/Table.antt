@@ -1,0 +1,185 @@
+-- Laws of the table: its rows begin with different bytes, so that a text's first byte decides which row counts.
+use mathlib.Core.Path.{_≡_, refl, sym, ap, _∙_}
+use mathlib.Core.Bool.{Bool, true, false, cond, false≢true}
+use mathlib.Core.List.{List, [], _∷_}
+use Prim.Native.Nat.{ℕ, zero, suc, _+_, _≤_, _<_, zero-le}
+use native.Mathlib.Nat.{le-of-suc-le-suc, not-suc-le-zero, add-zero}
+use native.Mathlib.Numerals.{add-one}
+use native.Mathlib.Omega.{arith}
+use borrow.Author.Needs.{needs}
+use borrow.Author.Tests.{eqb-true}
+use lib.Dec.{eqb, eqb·zero-suc}
+use lib.ListN.{length, getD, drop, length-drop}
+use lib.Seq.{getD-drop}
+use Rattle.text.specs.declared.Row.{Row}
+use Rattle.text.specs.Utf8.{Range, _to_, within, rows, agree, seqLen, best}
+use Rattle.text.specs.Steps.{trail, rangeAt, ranges, rowFor, Starts}
+use Rattle.text.proofs.Agree.{in-range, below-range, above-range, range-in, agree-fits, agree-out, agree-in, length-ranges, range-at}
+
+-- ---- the order of the rows
+
+-- Each row of l has a first range, that of the first at h or above, and each above that of the row before.
+pub Rising : ℕ → List (List Range) → Type 0
+Rising h [] = Unit {0}
+Rising h ([] ∷ l) = ⊥
+Rising h ((r ∷ row) ∷ l) = (h ≤ r .low) × (r .low ≤ r .high) × Rising (suc (r .high)) l
+
+pub rows-rising : Rising 0 rows
+unfolding Rising rows
+rows-rising = search needs
+
+pub rising-at : (h : ℕ) (l : List (List Range)) (k : ℕ) → Rising h l → k < length l → (0 < length (getD l k [])) × (h ≤ getD (getD l k []) 0 trail .low)
+unfolding Rising
+rising-at h [] k o p = absurd (not-suc-le-zero p)
+rising-at h ([] ∷ l) k o p = absurd o
+rising-at h ((r ∷ row) ∷ l) zero o p = (omega arith, o .0)
+rising-at h ((r ∷ row) ∷ l) (suc k) o p = let rest = rising-at (suc (r .high)) l k (o .2) (le-of-suc-le-suc p) in (rest .0, omega arith)
+
+-- ---- a text's first byte decides
+
+-- A row in whose first range it does not lie says nothing of the text.
+row-out : (r : Range) (row : List Range) (l : List (List Range)) (s : List ℕ) → within r (getD s 0 0) ≡ false
+    → (seqLen ((r ∷ row) ∷ l) s ≡ seqLen l s) × (best ((r ∷ row) ∷ l) s ≡ best l s)
+unfolding seqLen best
+row-out r row l s e =
+    let out : agree (r ∷ row) s ≡ 0 = agree-out r row s e in
+    (rw (out, eqb·zero-suc (length row)), omega (arith, out))
+
+rows-out : (h : ℕ) (l : List (List Range)) (s : List ℕ) → Rising h l → getD s 0 0 < h → (seqLen l s ≡ 0) × (best l s ≡ 0)
+unfolding Rising seqLen best
+rows-out h [] s o p = (refl, refl)
+rows-out h ([] ∷ l) s o p = absurd o
+rows-out h ((r ∷ row) ∷ l) s o p =
+    let out = row-out r row l s (below-range r (getD s 0 0) (omega arith)) in
+    let rest = rows-out (suc (r .high)) l s (o .2) (omega arith) in
+    (out .0 ∙ rest .0, out .1 ∙ rest .1)
+
+pub decided : (h : ℕ) (l : List (List Range)) (s : List ℕ) → Rising h l
+    → (seqLen l s ≡ seqLen (rowFor l (getD s 0 0) ∷ []) s) × (best l s ≡ agree (rowFor l (getD s 0 0)) s)
+unfolding Rising agree seqLen best rowFor
+decided h [] s o = (refl, refl)
+decided h ([] ∷ l) s o = absurd o
+decided h ((r ∷ row) ∷ l) s o = go (within r (getD s 0 0)) refl (decided (suc (r .high)) l s (o .2))
+  where
+    b : ℕ
+    b = getD s 0 0
+
+    go : (t : Bool) → within r b ≡ t → (seqLen l s ≡ seqLen (rowFor l b ∷ []) s) × (best l s ≡ agree (rowFor l b) s)
+        → (seqLen ((r ∷ row) ∷ l) s ≡ seqLen (cond t (r ∷ row) (rowFor l b) ∷ []) s) × (best ((r ∷ row) ∷ l) s ≡ agree (cond t (r ∷ row) (rowFor l b)) s)
+    go true e rest =
+        let none = rows-out (suc (r .high)) l s (o .2) (omega (arith, range-in r b e)) in
+        (rw (none .0), omega (arith, none .1))
+    go false e rest = let out = row-out r row l s e in (out .0 ∙ rest .0, out .1 ∙ rest .1)
+
+-- ---- rowFor
+
+-- Row k is that of each byte of its first range.
+pub row-for : (h : ℕ) (l : List (List Range)) (k b : ℕ) → Rising h l → k < length l → within (getD (getD l k []) 0 trail) b ≡ true → rowFor l b ≡ getD l k []
+unfolding Rising rowFor
+row-for h [] k b o p e = absurd (not-suc-le-zero p)
+row-for h ([] ∷ l) k b o p e = absurd o
+row-for h ((r ∷ row) ∷ l) zero b o p e = rw e
+row-for h ((r ∷ row) ∷ l) (suc k) b o p e =
+    let later = rising-at (suc (r .high)) l k (o .2) (le-of-suc-le-suc p) .1 in
+    rw (above-range r b (omega (arith, later, range-in (getD (getD l k []) 0 trail) b e .0))) (row-for (suc (r .high)) l k b (o .2) (le-of-suc-le-suc p) e)
+
+-- A row that was found has the text's first byte in it.
+found-agrees : (l : List (List Range)) (s : List ℕ) → 0 < length s → 0 < length (rowFor l (getD s 0 0)) → 0 < agree (rowFor l (getD s 0 0)) s
+unfolding rowFor
+found-agrees [] s p q = absurd (not-suc-le-zero q)
+found-agrees (row ∷ l) s p q = go row (within (getD row 0 trail) (getD s 0 0)) refl (found-agrees l s p) q
+  where
+    rest : List Range
+    rest = rowFor l (getD s 0 0)
+
+    go : (row : List Range) (t : Bool) → within (getD row 0 trail) (getD s 0 0) ≡ t → (0 < length rest → 0 < agree rest s)
+        → 0 < length (cond t row rest) → 0 < agree (cond t row rest) s
+    go [] true e h q = absurd (not-suc-le-zero q)
+    go (r ∷ row) true e h q = agree-in r row s p e
+    go row false e h q = h q
+
+-- ---- the loop of `row_of`
+
+-- What it knows before row k.
+abbrev pub Sought : ℕ → ℕ → Type 0
+Sought b k = rowFor rows b ≡ rowFor (drop k rows) b
+
+row-turn : (l : List (List Range)) (k b : ℕ) → k < length l → rowFor (drop k l) b ≡ cond (within (getD (getD l k []) 0 trail) b) (getD l k []) (rowFor (drop (suc k) l) b)
+unfolding rowFor
+row-turn [] k b p = absurd (not-suc-le-zero p)
+row-turn (row ∷ l) zero b p = refl
+row-turn (row ∷ l) (suc k) b p = row-turn l k b (le-of-suc-le-suc p)
+
+module _ (b k : ℕ) (row : Row) (t : Bool) (p : k < 9) (known : Sought b k) (is : ranges row ≡ getD rows k []) (test : t ≡ within (rangeAt row 0) b) where
+  turn : rowFor rows b ≡ cond t (getD rows k []) (rowFor (drop (suc k) rows) b)
+  unfolding rows
+  turn =
+      let full : 0 < length (ranges row) = rw is (rising-at 0 rows k rows-rising p .0) in
+      let first : getD (getD rows k []) 0 trail ≡ rangeAt row 0 = rw (← is) (range-at row 0 (omega (arith, length-ranges row))) in
+      rw (known, row-turn rows k b p, first, test)
+
+  pub row-found : t ≡ true → ranges row ≡ rowFor rows b
+  row-found e = is ∙ sym (turn ∙ rw e)
+
+  pub row-passed : t ≡ false → Sought b (k + 1)
+  row-passed e = rw add-one (turn ∙ rw e)
+
+-- ---- what `sequence` finds
+
+lead-of : (s : List ℕ) (at : ℕ) → getD (drop at s) 0 0 ≡ getD s at 0
+lead-of s at = getD-drop at s 0 0 ∙ ap (λ (i : ℕ). getD s i 0) (add-zero at)
+
+ascii-first : (s : List ℕ) → 0 < length s → getD s 0 0 < 0x80 → (1 ≡ best rows s) × (seqLen rows s ≡ 1)
+unfolding seqLen rows agree rowFor
+ascii-first [] p q = absurd (not-suc-le-zero p)
+ascii-first (b ∷ s) p q =
+    let i = in-range (0 to 0x7F) b zero-le (omega arith) in
+    (sym (decided 0 rows (b ∷ s) rows-rising .1 ∙ simp i), rw i)
+
+pub starts-ascii : (text : List ℕ) (at : ℕ) → at < length text → getD text at 0 < 0x80 → Starts text at 1 true
+starts-ascii text at p q =
+    let f = ascii-first (drop at text) (omega (arith, length-drop at text)) (omega (arith, lead-of text at)) in
+    record { inside = omega arith; most = f .0; only-whole = f .1; some = λ _. omega arith }
+
+cond-none : (t : Bool) (n : ℕ) → n ≡ 0 → cond t n 0 ≡ 0
+cond-none true n e = e
+cond-none false n e = refl
+
+cond-eqb : (a b : ℕ) → cond (eqb a b) b 0 ≡ cond (eqb a b) a 0
+cond-eqb a b = go (eqb a b) refl
+  where
+    go : (t : Bool) → eqb a b ≡ t → cond t b 0 ≡ cond t a 0
+    go true e = sym (eqb-true a b e)
+    go false e = refl
+
+module _ (text : List ℕ) (at : ℕ) (row : Row) (is : ranges row ≡ rowFor rows (getD text at 0)) (p : at < length text) where
+  here : ranges row ≡ rowFor rows (getD (drop at text) 0 0)
+  here = is ∙ ap (rowFor rows) (sym (lead-of text at))
+
+  pub lead-agrees : (row .4 ≡ 0 → ⊥) → 0 < agree (ranges row) (drop at text)
+  lead-agrees q =
+      let full : 0 < length (rowFor rows (getD (drop at text) 0 0)) = rw (← here) (omega (arith, length-ranges row)) in
+      rw here (found-agrees rows (drop at text) (omega (arith, length-drop at text)) full)
+
+  most-of : (n : ℕ) → n ≡ agree (ranges row) (drop at text) → n ≡ best rows (drop at text)
+  most-of n e = e ∙ rw here (sym (decided 0 rows (drop at text) rows-rising .1))
+
+  one-row : seqLen rows (drop at text) ≡ cond (eqb (agree (ranges row) (drop at text)) (row .4)) (row .4) 0
+  unfolding seqLen
+  one-row = rw (length-ranges row) at (rw (← here) at (decided 0 rows (drop at text) rows-rising .0))
+
+  pub starts-none : row .4 ≡ 0 → Starts text at 0 false
+  starts-none e = record {
+    inside = omega arith;
+    most = most-of 0 (omega (arith, agree-fits (ranges row) (drop at text), length-ranges row));
+    only-whole = one-row ∙ cond-none (eqb (agree (ranges row) (drop at text)) (row .4)) (row .4) e;
+    some = λ t. absurd (false≢true t);
+  }
+
+  pub starts-row : (n : ℕ) → n ≡ agree (ranges row) (drop at text) → 0 < n → Starts text at n (eqb n (row .4))
+  starts-row n e q = record {
+    inside = omega (arith, agree-fits (ranges row) (drop at text), length-drop at text);
+    most = most-of n e;
+    only-whole = one-row ∙ rw e (cond-eqb (agree (ranges row) (drop at text)) (row .4));
+    some = λ _. q;
+  }

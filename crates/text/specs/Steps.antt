@@ -1,0 +1,42 @@
+-- What the private functions answer. No promise of a public function cites this file.
+use Prim.Native.Nat.{ℕ, _+_, _-_, _≤_, _<_}
+use mathlib.Core.Path.{_≡_}
+use mathlib.Core.Bool.{Bool, true, cond}
+use mathlib.Core.List.{List, [], _∷_}
+use lib.ListN.{length, take, drop, getD, replicate}
+use Rattle.text.specs.declared.Row.{Row}
+use Rattle.text.specs.Utf8.{Range, _to_, within, rows, seqLen, goodLen, best}
+
+-- What a third or a fourth byte may be.
+abbrev pub trail : Range
+trail = 0x80 to 0xBF
+
+-- The range that a row of the code's table has at a place, and all its ranges.
+unfoldable pub rangeAt : Row → ℕ → Range
+rangeAt row i = getD (row .0 to row .1 ∷ row .2 to row .3 ∷ []) i trail
+
+unfoldable pub ranges : Row → List Range
+ranges row = take (row .4) (row .0 to row .1 ∷ row .2 to row .3 ∷ replicate (row .4 - 2) trail)
+
+-- The row that a byte starts, or no ranges where there is none.
+unfoldable pub rowFor : List (List Range) → ℕ → List Range
+rowFor [] b = []
+rowFor (row ∷ rest) b = cond (within (getD row 0 trail) b) row (rowFor rest b)
+
+-- So many bytes of s, from a place on, begin a sequence, and that is the whole sequence or not.
+pub record Starts (s : List ℕ) (at bytes : ℕ) (whole : Bool) : Type 0 where
+  pub inside : at + bytes ≤ length s
+  pub most : bytes ≡ best rows (drop at s)
+  pub only-whole : seqLen rows (drop at s) ≡ cond whole bytes 0
+  pub some : whole ≡ true → 0 < bytes
+
+-- Whole sequences stand in s from one place to another: what is good from either place on ends at the same byte.
+pub record Passed (s : List ℕ) (from until : ℕ) : Type 0 where
+  pub forward : from ≤ until
+  pub inside : until ≤ length s
+  pub same : from + goodLen (drop from s) ≡ until + goodLen (drop until s)
+
+-- No whole sequence stands at a place of s, and so many bytes from there on begin one.
+pub record Stopped (s : List ℕ) (at begun : ℕ) : Type 0 where
+  pub nothing : goodLen (drop at s) ≡ 0
+  pub most : begun ≡ best rows (drop at s)

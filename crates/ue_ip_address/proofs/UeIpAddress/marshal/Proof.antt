@@ -1,0 +1,187 @@
+-- `ue_ip_address::UeIpAddress::marshal` meets its contract: five puts, one behind the other, are one put of the written form.
+use Prim.Native.Nat.{ℕ, _+_, _≤_, _<_}
+use native.Mathlib.Omega.{arith}
+use mathlib.Core.Path.{_≡_, sym, _∙_}
+use mathlib.Core.Bool.{false}
+use mathlib.Core.List.{List, [], _∷_, _++_, append-assoc}
+use lib.ListN.{length, length-append}
+use borrow.Author.Needs.{needs}
+use borrow.Author.Tests.{le-leb, lt-leb}
+use Rattle.answer.specs.declared.Answer.the-variants.{Done, NoRoom}
+use Rattle.answer.specs.Paper.{written}
+use Rattle.octets.specs.Octets.{under, flagByte, bytesIf, numberIf, ipv4Meaning, ipv6Meaning, u8Meaning, put}
+use Rattle.octets.proofs.Laws.{given-length, number-length, put-not, put-behind}
+use Rattle.ue_ip_address.specs.declared.UeIpAddress.{UeIpAddress}
+use Rattle.ue_ip_address.specs.UeIpAddress.{meaning, wire}
+use Rattle.ue_ip_address.proofs.UeIpAddress.marshal.Statement.{statement}
+use Rattle.ue_ip_address.proofs.UeIpAddress.marshal.Tie as tie
+
+-- the widths of a record's fields
+record Widths (r : UeIpAddress) (u4 u6 ub up : ℕ) : Type 0 where
+  pub ipv4 : length (bytesIf (ipv4Meaning (r .«ipv4_address»))) ≡ u4
+  pub ipv6 : length (bytesIf (ipv6Meaning (r .«ipv6_address»))) ≡ u6
+  pub bits : length (numberIf 1 (u8Meaning (r .«ipv6_prefix_delegation_bits»))) ≡ ub
+  pub prefix : length (numberIf 1 (u8Meaning (r .«ipv6_prefix_length»))) ≡ up
+
+widths : (r : UeIpAddress) (u4 u6 ub up : ℕ)
+    → length (r .«ipv4_address» .octets) ≡ 4
+    → length (r .«ipv6_address» .octets) ≡ 16
+    → u4 ≡ under (r .«ipv4_address» .given) 4
+    → u6 ≡ under (r .«ipv6_address» .given) 16
+    → ub ≡ under (r .«ipv6_prefix_delegation_bits» .given) 1
+    → up ≡ under (r .«ipv6_prefix_length» .given) 1
+    → Widths r u4 u6 ub up
+widths r u4 u6 ub up l4 l6 e4 e6 eb ep =
+    record {
+      ipv4 = given-length (r .«ipv4_address» .given) 4 (r .«ipv4_address» .octets) l4 ∙ sym e4;
+      ipv6 = given-length (r .«ipv6_address» .given) 16 (r .«ipv6_address» .octets) l6 ∙ sym e6;
+      bits = number-length (r .«ipv6_prefix_delegation_bits» .given) 1 (r .«ipv6_prefix_delegation_bits» .value) ∙ sym eb;
+      prefix = number-length (r .«ipv6_prefix_length» .given) 1 (r .«ipv6_prefix_length» .value) ∙ sym ep;
+    }
+
+module _ (d : List ℕ) (r : UeIpAddress) (u4 u6 ub up : ℕ) (w : Widths r u4 u6 ub up) where
+  -- how long the written form is
+  long : length (wire (meaning r)) ≡ 1 + u4 + u6 + ub + up
+  unfolding wire meaning
+  long = simp (length-append, w .ipv4, w .ipv6, w .bits, w .prefix) (omega arith)
+
+  -- each part of a return, from what the calls on the way to it handed over
+  stop8 : length d < 1 + u4 + u6 + ub + up → record { answer = NoRoom (1 + u4 + u6 + ub + up); len = 0 } ≡ written (length (wire (meaning r))) (length d)
+  stop8 h = rw (long, lt-leb _ _ h)
+
+  kept : length d < 1 + u4 + u6 + ub + up → d ≡ put d 0 (wire (meaning r))
+  kept h = sym (put-not d 0 (wire (meaning r)) (omega (arith, long)))
+
+  done : 1 + u4 + u6 + ub + up ≤ length d → record { answer = Done; len = 1 + u4 + u6 + ub + up } ≡ written (length (wire (meaning r))) (length d)
+  done h = rw (long, le-leb _ _ h)
+
+  stored : (f : ℕ) (d1 d2 d3 d4 d5 : List ℕ)
+      → 1 + u4 + u6 + ub + up ≤ length d
+      → f ≡ flagByte (r .v6 ∷ r .v4 ∷ r .«source_destination» ∷ r .«ipv6_prefix_delegation» ∷ r .«choose_ipv4» ∷ r .«choose_ipv6» ∷ r .«ipv6_prefix_length_present» ∷ false ∷ [])
+      → d1 ≡ put d 0 (f ∷ [])
+      → d2 ≡ put d1 1 (bytesIf (ipv4Meaning (r .«ipv4_address»)))
+      → d3 ≡ put d2 (1 + u4) (bytesIf (ipv6Meaning (r .«ipv6_address»)))
+      → d4 ≡ put d3 (1 + u4 + u6) (numberIf 1 (u8Meaning (r .«ipv6_prefix_delegation_bits»)))
+      → d5 ≡ put d4 (1 + u4 + u6 + ub) (numberIf 1 (u8Meaning (r .«ipv6_prefix_length»)))
+      → d5 ≡ put d 0 (wire (meaning r))
+  unfolding wire meaning flagByte under
+  stored f d1 d2 d3 d4 d5 h g q1 q2 q3 q4 q5 =
+      let a4 = bytesIf (ipv4Meaning (r .«ipv4_address»)) in
+      let a6 = bytesIf (ipv6Meaning (r .«ipv6_address»)) in
+      let b = numberIf 1 (u8Meaning (r .«ipv6_prefix_delegation_bits»)) in
+      let p = numberIf 1 (u8Meaning (r .«ipv6_prefix_length»)) in
+      let l6 = length-append a4 a6 in
+      let lb = length-append (a4 ++ a6) b in
+      let r2 = q2 ∙ put-behind d d1 0 1 _ a4 q1 (omega arith) (omega arith) in
+      let r3 = q3 ∙ put-behind d d2 0 (1 + u4) _ a6 r2 (omega arith) (omega arith) in
+      let r4 = q4 ∙ put-behind d d3 0 (1 + u4 + u6) _ b r3 (omega arith) (omega arith) in
+      let r5 = q5 ∙ put-behind d d4 0 (1 + u4 + u6 + ub) _ p r4 (omega arith) (omega arith) in
+      rw (r5, g, append-assoc (a4 ++ a6) b p, append-assoc a4 a6 (b ++ p))
+
+-- the arrays are as long as their types say
+lengths : (c : tie.Start) → (length (c .args .self .«ipv4_address» .octets) ≡ 4) × (length (c .args .self .«ipv6_address» .octets) ≡ 16)
+lengths c = (search needs, search needs)
+
+-- what is known of the widths where all the ends are
+widened : (c : tie.After-under4) →
+    Widths (c .before .before .before .before .before .before .before .before .before .args .self) (c .before .before .before .under .result) (c .before .before .under2 .result) (c .before .under3 .result) (c .under4 .result)
+widened c =
+    let u3 = c .before in
+    let u2 = u3 .before in
+    let u1 = u2 .before in
+    let start = u1 .before .before .before .before .before .before in
+    let (l4, l6) = lengths start in
+    widths (start .args .self) _ _ _ _ l4 l6 (u1 .under .ensures .0) (u2 .under2 .ensures .0) (u3 .under3 .ensures .0) (c .under4 .ensures .0)
+
+under-requires : tie.Need-under-requires
+under-requires c κs = search needs
+
+add-end4 : tie.Need-add-end4
+add-end4 c = search needs
+
+under-requires-2 : tie.Need-under-requires-2
+under-requires-2 c κs = search needs
+
+add-end6 : tie.Need-add-end6
+add-end6 c = search needs
+
+under-requires-3 : tie.Need-under-requires-3
+under-requires-3 c κs = search needs
+
+add-end-bits : tie.Need-add-end-bits
+add-end-bits c = search needs
+
+under-requires-4 : tie.Need-under-requires-4
+under-requires-4 c κs = search needs
+
+add-end : tie.Need-add-end
+add-end c = search needs
+
+returns : tie.Need-returns
+returns c =
+    let w = widened (c .before) in
+    (search stop8, search kept)
+
+flag-byte-requires : tie.Need-flag-byte-requires
+flag-byte-requires c κs = search needs
+
+put-byte-requires : tie.Need-put-byte-requires
+put-byte-requires c κs = search needs
+
+put-ipv4-requires : tie.Need-put-ipv4-requires
+put-ipv4-requires c κs = search needs
+
+put-ipv6-requires : tie.Need-put-ipv6-requires
+put-ipv6-requires c κs = search needs
+
+cast-put-number-given : tie.Need-cast-put-number-given
+cast-put-number-given c = search needs
+
+put-number-given-requires : tie.Need-put-number-given-requires
+put-number-given-requires c κs = search needs
+
+cast-put-number-given-2 : tie.Need-cast-put-number-given-2
+cast-put-number-given-2 c = search needs
+
+put-number-given-requires-2 : tie.Need-put-number-given-requires-2
+put-number-given-requires-2 c κs = search needs
+
+same-length : tie.Need-same-length
+same-length c = search needs
+
+returns-2 : tie.Need-returns-2
+returns-2 c =
+    let pp = c .before .before in
+    let pb = pp .before .before .before .before .before in
+    let p6 = pb .before .before .before .before .before in
+    let p4 = p6 .before .before .before .before in
+    let pf = p4 .before .before .before .before in
+    let fl = pf .before .before in
+    let w = widened (fl .before .before) in (
+      search done,
+      stored _ _ _ _ _ _ w _ _ _ _ _ _ (fl .before .if1 .left) (fl .flag-byte .ensures) (pf .put-byte .ensures) (p4 .put-ipv4 .ensures) (p6 .put-ipv6 .ensures) (pb .put-number-given .ensures) (pp .put-number-given2 .ensures),
+    )
+
+pub marshal-spec : {M : Type 1} → statement M
+marshal-spec =
+    tie.close
+    (tie.spec
+    under-requires
+    add-end4
+    under-requires-2
+    add-end6
+    under-requires-3
+    add-end-bits
+    under-requires-4
+    add-end
+    returns
+    flag-byte-requires
+    put-byte-requires
+    put-ipv4-requires
+    put-ipv6-requires
+    cast-put-number-given
+    put-number-given-requires
+    cast-put-number-given-2
+    put-number-given-requires-2
+    same-length
+    returns-2)

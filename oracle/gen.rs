@@ -1,0 +1,979 @@
+//! gen KIND N SEED [--form case|full|build|mixed|all] [--from A] [--open] [--list]
+//!
+//! Prints the first N lines, or N lines from line A on, of an endless sequence of test lines. The sequence is
+//! fixed by KIND, form and SEED, and each line by its number too. Fixed lines come first, then all of what can
+//! be counted up, then random ones.
+//!
+//!   case    payload lines of at most 4,096 digit pairs
+//!   full    payload lines of at most 65,600 digit pairs
+//!   build   record lines
+//!   mixed   full and build by turns
+//!   all     of T: every text of at most three bytes
+//!
+//! --open leaves out the byte that ends the last line. --list makes a short list of small lines, to keep.
+
+use std::io::Write;
+
+// ---------------------------------------------------------------- random numbers
+
+/// splitmix64
+struct Random(u64);
+
+impl Random {
+    /// The numbers of one line.
+    fn of(seed: u64, line: u64) -> Random {
+        let mut mixed = Random(seed);
+        Random(mixed.next() ^ line.wrapping_mul(0xD134_2543_DE82_EF95))
+    }
+
+    fn next(&mut self) -> u64 {
+        self.0 = self.0.wrapping_add(0x9E37_79B9_7F4A_7C15);
+        let mut z = self.0;
+        z = (z ^ z >> 30).wrapping_mul(0xBF58_476D_1CE4_E5B9);
+        z = (z ^ z >> 27).wrapping_mul(0x94D0_49BB_1331_11EB);
+        z ^ z >> 31
+    }
+
+    /// From 0 on and below n.
+    fn below(&mut self, n: usize) -> usize {
+        (self.next() % n as u64) as usize
+    }
+
+    fn between(&mut self, least: usize, most: usize) -> usize {
+        least + self.below(most - least + 1)
+    }
+
+    fn one_in(&mut self, n: usize) -> bool {
+        self.below(n) == 0
+    }
+
+    fn byte(&mut self) -> u8 {
+        self.next() as u8
+    }
+
+    fn bytes(&mut self, n: usize) -> Vec<u8> {
+        let mut v = Vec::with_capacity(n + 7);
+        while v.len() < n {
+            v.extend(self.next().to_le_bytes());
+        }
+        v.truncate(n);
+        v
+    }
+
+    fn pick<'a, T>(&mut self, from: &'a [T]) -> &'a T {
+        &from[self.below(from.len())]
+    }
+
+    fn shuffle<T>(&mut self, v: &mut [T]) {
+        for i in (1..v.len()).rev() {
+            v.swap(i, self.below(i + 1));
+        }
+    }
+}
+
+// ---------------------------------------------------------------- the kinds
+
+/// A field of a payload: whether a first byte has it sent, and its width.
+type Field = (fn(u8) -> bool, usize);
+
+/// A record line: its first word, and its keys with the bytes of their values, none for a bare key.
+struct Call {
+    head: &'static str,
+    keys: &'static [(&'static str, usize)],
+    /// The greatest flag byte that a record can have.
+    flags: u8,
+}
+
+struct Kind {
+    letter: u8,
+    /// The longest written form of fixed fields. Every first byte comes with every length up to a little more.
+    longest: usize,
+    /// A payload that a reader accepts, with any ignored bits.
+    good: fn(&mut Random) -> Vec<u8>,
+    /// Payloads that always come.
+    samples: &'static [&'static str],
+    calls: &'static [Call],
+    /// The calls of its builder, each with the bytes of its value.
+    builder: &'static [(&'static str, usize)],
+}
+
+const KINDS: [Kind; 5] = [
+    Kind {
+        letter: b'U',
+        longest: 22,
+        good: |r| {
+            // V6 with V4, or a choice, and at most one of the two single bytes, under V6 or CHV6
+            let six = *r.pick(&[0x00, 0x01, 0x20, 0x01, 0x20]);
+            let four = *r.pick(&[0x00, 0x02, 0x10]);
+            let single = if six == 0 { 0x00 } else { *r.pick(&[0x00, 0x08, 0x40]) };
+            let first = six | four | single | r.byte() & 0x84;
+            fixed(r, first, &[(|_| true, 1), (|b| b & 2 != 0, 4), (|b| b & 1 != 0, 16), (|b| b & 8 != 0, 1), (|b| b & 64 != 0, 1)])
+        },
+        samples: &["02C0000201FF", "82C0000201", "12", "48", "40", "6040", "02C00002", "00", "5A", "4B", "28C0"],
+        calls: &[
+            Call { head: "U", keys: &[("flags", 1), ("v4", 4), ("v6", 16), ("db", 1), ("pl", 1)], flags: 0x7F },
+            Call { head: "U.new", keys: &[("v4", 4), ("v6", 16)], flags: 0 },
+            Call { head: "U.choose", keys: &[("ch4", 0), ("ch6", 0)], flags: 0 },
+        ],
+        builder: &[],
+    },
+    Kind {
+        letter: b'F',
+        longest: 25,
+        good: |r| {
+            let first = *r.pick(&[0, 1, 2, 3, 4, 5, 6, 7, 12, 13, 14, 15]) | r.byte() & 0xF0;
+            if first & 4 != 0 {
+                fixed(r, first, &[(|_| true, 1), (|b| b & 8 != 0, 1)])
+            } else {
+                fixed(r, first, &[(|_| true, 5), (|b| b & 1 != 0, 4), (|b| b & 2 != 0, 16)])
+            }
+        },
+        samples: &["04", "08", "0C", "0000000007", "05", "0D05", "0800000007", "0100000007C0000201"],
+        calls: &[
+            Call { head: "F", keys: &[("flags", 1), ("teid", 4), ("v4", 4), ("v6", 16), ("cid", 1)], flags: 0x0F },
+            Call { head: "F.new", keys: &[("flags", 1), ("teid", 4), ("v4", 4), ("v6", 16), ("cid", 1)], flags: 0x0F },
+            Call { head: "F.new_with_choose", keys: &[("flags", 1), ("teid", 4), ("v4", 4), ("v6", 16), ("cid", 1)], flags: 0x0F },
+            Call { head: "F.ipv4", keys: &[("teid", 4), ("v4", 4), ("v6", 16)], flags: 0 },
+            Call { head: "F.ipv6", keys: &[("teid", 4), ("v4", 4), ("v6", 16)], flags: 0 },
+            Call { head: "F.dual_stack", keys: &[("teid", 4), ("v4", 4), ("v6", 16)], flags: 0 },
+            Call { head: "F.choose_ipv4", keys: &[("teid", 4), ("v4", 4), ("v6", 16)], flags: 0 },
+            Call { head: "F.choose_ipv6", keys: &[("teid", 4), ("v4", 4), ("v6", 16)], flags: 0 },
+            Call { head: "F.choose_dual_stack", keys: &[("teid", 4), ("v4", 4), ("v6", 16)], flags: 0 },
+        ],
+        builder: &[("teid", 4), ("v4", 4), ("v6", 16), ("dual", 20), ("ch4", 0), ("ch6", 0), ("chdual", 0), ("cid", 1)],
+    },
+    Kind {
+        letter: b'S',
+        longest: 29,
+        good: |r| {
+            let first = r.byte();
+            fixed(r, first, &[(|_| true, 9), (|b| b & 2 != 0, 4), (|b| b & 1 != 0, 16)])
+        },
+        samples: &["020000000000000005C0000201", "FFFFFFFFFFFFFFFFFF"],
+        calls: &[
+            Call { head: "S", keys: &[("flags", 1), ("seid", 8), ("v4", 4), ("v6", 16)], flags: 3 },
+            Call { head: "S.new", keys: &[("seid", 8), ("v4", 4), ("v6", 16)], flags: 0 },
+        ],
+        builder: &[],
+    },
+    Kind {
+        letter: b'O',
+        longest: 34,
+        good: |r| {
+            // any flags, or few of them
+            let first = if r.one_in(2) { r.byte() } else { 1 << r.below(8) | r.byte() & r.byte() & r.byte() };
+            fixed(
+                r,
+                first,
+                &[
+                    (|_| true, 2),
+                    (|b| b & 0x03 != 0, 4),
+                    (|b| b & 0x15 != 0, 4),
+                    (|b| b & 0x2A != 0, 16),
+                    (|b| b & 0x0C != 0, 2),
+                    (|b| b & 0x40 != 0, 3),
+                    (|b| b & 0x80 != 0, 3),
+                ],
+            )
+        },
+        samples: &["01FF00000007C0000201", "0000", "00", "01", "FFFF", "40FF123456", "8000123456", "C000123456", "0400C00002011F"],
+        calls: &[
+            Call { head: "O", keys: &[("flags", 1), ("teid", 4), ("v4", 4), ("v6", 16), ("port", 2), ("ctag", 4), ("stag", 4)], flags: 0xFF },
+            Call { head: "O.new", keys: &[("flags", 1), ("ctag", 4), ("stag", 4)], flags: 0xFF },
+            Call { head: "O.gtpu_ipv4", keys: &[("teid", 4), ("v4", 4), ("ctag", 4), ("stag", 4)], flags: 0 },
+            Call { head: "O.gtpu_ipv6", keys: &[("teid", 4), ("v6", 16), ("ctag", 4), ("stag", 4)], flags: 0 },
+            Call { head: "O.udp_ipv4", keys: &[("v4", 4), ("port", 2), ("ctag", 4), ("stag", 4)], flags: 0 },
+            // with keys that the call doesn't take
+            Call { head: "O.new", keys: &[("stag", 4), ("teid", 4), ("v4", 4), ("v6", 16), ("port", 2), ("ctag", 4), ("flags", 1)], flags: 0xFF },
+            Call { head: "O.gtpu_ipv4", keys: &[("stag", 4), ("teid", 4), ("v4", 4), ("v6", 16), ("port", 2), ("ctag", 4), ("flags", 1)], flags: 0xFF },
+            Call { head: "O.gtpu_ipv6", keys: &[("stag", 4), ("teid", 4), ("v4", 4), ("v6", 16), ("port", 2), ("ctag", 4), ("flags", 1)], flags: 0xFF },
+            Call { head: "O.udp_ipv4", keys: &[("stag", 4), ("teid", 4), ("v4", 4), ("v6", 16), ("port", 2), ("ctag", 4), ("flags", 1)], flags: 0xFF },
+            Call { head: "O.flags.new", keys: &[], flags: 0 },
+            Call { head: "O.flags.default", keys: &[], flags: 0 },
+            Call { head: "O.flags.gtpu_ipv4", keys: &[], flags: 0 },
+            Call { head: "O.flags.gtpu_ipv6", keys: &[], flags: 0 },
+            Call { head: "O.flags.udp_ipv4", keys: &[], flags: 0 },
+            Call { head: "O.flags.udp_ipv6", keys: &[], flags: 0 },
+        ],
+        builder: &[],
+    },
+    Kind {
+        letter: b'T',
+        longest: 0,
+        good: |r| {
+            let n = r.below(12);
+            text(r, n)
+        },
+        samples: &["61C3", "C3A9", "EDA080", "F48FBFBF"],
+        calls: &[],
+        builder: &[],
+    },
+];
+
+/// The fields that the first byte has sent, the first byte at their front.
+fn fixed(r: &mut Random, first: u8, fields: &[Field]) -> Vec<u8> {
+    let n = fields.iter().filter(|(sent, _)| sent(first)).map(|(_, width)| width).sum();
+    let mut p = r.bytes(n);
+    p[0] = first;
+    p
+}
+
+// ---------------------------------------------------------------- texts
+
+/// Table 3-7 of the Unicode Standard: first byte from and to, second byte from and to, length.
+const ROWS: [[u8; 5]; 9] = [
+    [0x00, 0x7F, 0x80, 0xBF, 1],
+    [0xC2, 0xDF, 0x80, 0xBF, 2],
+    [0xE0, 0xE0, 0xA0, 0xBF, 3],
+    [0xE1, 0xEC, 0x80, 0xBF, 3],
+    [0xED, 0xED, 0x80, 0x9F, 3],
+    [0xEE, 0xEF, 0x80, 0xBF, 3],
+    [0xF0, 0xF0, 0x90, 0xBF, 4],
+    [0xF1, 0xF3, 0x80, 0xBF, 4],
+    [0xF4, 0xF4, 0x80, 0x8F, 4],
+];
+
+/// A byte of a range, its ends more often than others.
+fn within(r: &mut Random, from: u8, to: u8) -> u8 {
+    match r.below(4) {
+        0 => from,
+        1 => to,
+        _ => r.between(from as usize, to as usize) as u8,
+    }
+}
+
+/// A sequence of a row, which is well formed.
+fn sequence(r: &mut Random) -> Vec<u8> {
+    let [from, to, from2, to2, len] = *r.pick(&ROWS);
+    let mut s = vec![within(r, from, to), within(r, from2, to2)];
+    s.extend([within(r, 0x80, 0xBF), within(r, 0x80, 0xBF)]);
+    s.truncate(len as usize);
+    s
+}
+
+/// A text of n sequences, which is well formed.
+fn text(r: &mut Random, n: usize) -> Vec<u8> {
+    (0..n).flat_map(|_| sequence(r)).collect()
+}
+
+/// A sequence that isn't well formed: overlong, a surrogate, above the last character, cut, or out of range.
+fn broken(r: &mut Random) -> Vec<u8> {
+    let tail = |r: &mut Random| within(r, 0x80, 0xBF);
+    match r.below(8) {
+        0 => vec![within(r, 0xC0, 0xC1), tail(r)],
+        1 => vec![0xE0, within(r, 0x80, 0x9F), tail(r)],
+        2 => vec![0xF0, within(r, 0x80, 0x8F), tail(r), tail(r)],
+        3 => vec![0xED, within(r, 0xA0, 0xBF), tail(r)],
+        4 => vec![0xF4, within(r, 0x90, 0xBF), tail(r), tail(r)],
+        5 => vec![within(r, 0xF5, 0xFF), tail(r)],
+        6 => vec![tail(r)],
+        _ => {
+            let s = sequence(r);
+            s[..r.below(s.len()).max(1)].to_vec()
+        }
+    }
+}
+
+/// Every row with the bytes at and just outside its ranges, of every length, alone and before a letter.
+fn edge_texts() -> Vec<Vec<u8>> {
+    let around = |from: u8, to: u8| [from.wrapping_sub(1), from, to, to.wrapping_add(1)];
+    let tails = around(0x80, 0xBF);
+    let mut all: Vec<Vec<u8>> = Vec::new();
+    for [from, to, from2, to2, _] in ROWS {
+        let mut seconds = tails.to_vec();
+        seconds.extend(around(from2, to2));
+        let mut level: Vec<Vec<u8>> = around(from, to).iter().map(|b| vec![*b]).collect();
+        for next in [&seconds[..], &tails[..], &tails[..]] {
+            all.extend(level.iter().cloned());
+            level = level.iter().flat_map(|s| next.iter().map(move |b| [&s[..], &[*b][..]].concat())).collect();
+        }
+        all.extend(level);
+    }
+    all.sort();
+    all.dedup();
+    let with_letter: Vec<Vec<u8>> = all.iter().map(|s| [&s[..], b"a"].concat()).collect();
+    all.extend(with_letter);
+    all
+}
+
+/// A text with some of its parts broken, now and then long.
+fn any_text(r: &mut Random, most: usize) -> Vec<u8> {
+    let n = if r.one_in(200) { r.below(most / 4) } else { r.below(24) };
+    let bad = if r.one_in(3) { 0 } else { r.between(1, 3) };
+    let mut parts: Vec<Vec<u8>> = (0..n).map(|_| sequence(r)).collect();
+    for _ in 0..bad {
+        let part = if r.one_in(4) { r.bytes(1) } else { broken(r) };
+        // Behind good text more often than at the front, so that the place counts.
+        let at = r.below(parts.len() + 1).max(r.below(parts.len() + 1));
+        parts.insert(at, part);
+    }
+    let mut t = parts.concat();
+    if r.one_in(4) && !t.is_empty() {
+        t.truncate(r.below(t.len()));
+    }
+    t.truncate(most);
+    t
+}
+
+// ---------------------------------------------------------------- payload lines
+
+/// Digits of upper, lower or mixed case.
+fn hex(r: &mut Random, bytes: &[u8]) -> Vec<u8> {
+    const UPPER: &[u8; 16] = b"0123456789ABCDEF";
+    const LOWER: &[u8; 16] = b"0123456789abcdef";
+    let style = r.below(4);
+    let mut s = Vec::with_capacity(2 * bytes.len());
+    let mut coin = 0u64;
+    for (i, b) in bytes.iter().enumerate() {
+        if style == 3 && i % 32 == 0 {
+            coin = r.next();
+        }
+        for d in [b >> 4, b & 15] {
+            let lower = style == 2 || (style == 3 && coin & 1 == 1);
+            s.push(if lower { LOWER } else { UPPER }[d as usize]);
+            coin >>= 1;
+        }
+    }
+    s
+}
+
+/// The line of a payload.
+fn line_of(r: &mut Random, letter: u8, payload: &[u8]) -> Vec<u8> {
+    let mut line = vec![letter, b' '];
+    if payload.is_empty() {
+        line.push(b'-');
+    }
+    line.extend(hex(r, payload));
+    line
+}
+
+struct Payloads<'a> {
+    kind: &'a Kind,
+    /// The most digit pairs of a good line.
+    pairs: usize,
+    /// Random lines stay short.
+    short: bool,
+    edges: Vec<Vec<u8>>,
+}
+
+impl<'a> Payloads<'a> {
+    fn new(kind: &'a Kind, pairs: usize, short: bool) -> Self {
+        let edges = if kind.letter == b'T' && !short { edge_texts() } else { Vec::new() };
+        Payloads { kind, pairs, short, edges }
+    }
+
+    /// Lines that aren't payload lines, of this letter and of others.
+    fn odd_lines(&self) -> Vec<Vec<u8>> {
+        let k = self.kind.letter as char;
+        let small = k.to_ascii_lowercase();
+        let mut all: Vec<Vec<u8>> = ["", " ", "-", "  -", "?", "? 0 -", "X 00", "x 00", "0 00"]
+            .iter()
+            .map(|l| l.as_bytes().to_vec())
+            .collect();
+        for end in [
+            "", " ", "  ", " --", " - ", "  -", "\t-", "-", " -0", " 0-", " 0", " 000", " 0x00", "00", "  00", "\t00",
+            " 00 ", " 00\t", " 00\r", " 00\0", "\0", "\r", " \r", " -\r", " -\0", " 00 00", " 0 0", " 0G", " G0",
+            " 0g", " 0:", " 0/", " 0@", " 0`", " +0", " 00\u{e9}", " 00-", " 00.", " 00=", ".", "=", " =", " .", ":00",
+        ] {
+            all.push(format!("{k}{end}").into_bytes());
+        }
+        for line in ["{k}{k} 00", " {k} 00", "{k}\n00", "{small} 00", "{small} -"] {
+            let line = line.replace("{k}", &k.to_string()).replace("{small}", &small.to_string());
+            all.extend(line.split('\n').map(|l| l.as_bytes().to_vec()));
+        }
+        all
+    }
+
+    /// Lengths of payloads around the limits. Short lists have few: the long one, of 131 KB, is in that of S alone.
+    fn limits(&self) -> Vec<usize> {
+        let most = self.pairs;
+        match (self.short, most) {
+            (true, 4_096) => vec![4_096, 4_097],
+            (true, _) if self.kind.letter != b'S' => vec![],
+            (true, _) => vec![65_536],
+            (false, 4_096) => vec![4_095, 4_096, 4_097, 4_098],
+            (false, _) => vec![4_096, 4_097, 65_534, 65_535, 65_536, 65_537, most - 1, most, most + 1],
+        }
+    }
+
+    fn counted(&self) -> usize {
+        match self.kind.letter {
+            b'T' => self.edges.len(),
+            _ => 1 + 256 * (self.kind.longest + 3),
+        }
+    }
+
+    /// Every length up to a little above the longest form, with every first byte.
+    fn counted_line(&self, i: usize, r: &mut Random) -> Vec<u8> {
+        let payload = match (self.kind.letter, i) {
+            (b'T', _) => self.edges[i].clone(),
+            (_, 0) => Vec::new(),
+            _ => {
+                let mut p = r.bytes(1 + (i - 1) / 256);
+                p[0] = (i - 1) as u8;
+                p
+            }
+        };
+        line_of(r, self.kind.letter, &payload)
+    }
+
+    fn random_line(&self, r: &mut Random) -> Vec<u8> {
+        let n = if self.short { r.below(9_800) } else { r.below(10_000) };
+        match n {
+            0..=7_999 => {
+                let payload = self.payload(r);
+                line_of(r, self.kind.letter, &payload)
+            }
+            8_000..=9_799 => self.malformed(r),
+            _ => self.long_line(r),
+        }
+    }
+
+    fn payload(&self, r: &mut Random) -> Vec<u8> {
+        if self.kind.letter == b'T' {
+            let most = if self.short { 96 } else { self.pairs.min(4096) };
+            return any_text(r, most);
+        }
+        let mut p = (self.kind.good)(r);
+        match r.below(10) {
+            0..=3 => {
+                if r.one_in(2) {
+                    let n = r.between(1, 8);
+                    p.extend(r.bytes(n));
+                }
+                p
+            }
+            4..=7 => damaged(r, p),
+            8 => {
+                let n = r.below(self.kind.longest + 4);
+                r.bytes(n)
+            }
+            _ => {
+                let n = r.below(if self.short { 96 } else { 300 });
+                r.bytes(n)
+            }
+        }
+    }
+
+    /// A payload line with one thing wrong with it, now and then two.
+    fn malformed(&self, r: &mut Random) -> Vec<u8> {
+        if r.one_in(16) {
+            let n = r.below(40);
+            return without_ends(r.bytes(n));
+        }
+        if r.one_in(8) {
+            return r.pick(&self.odd_lines()).clone();
+        }
+        let payload = (self.kind.good)(r);
+        let mut line = line_of(r, self.kind.letter, &payload);
+        for _ in 0..if r.one_in(4) { 2 } else { 1 } {
+            spoil(r, &mut line);
+        }
+        without_ends(line)
+    }
+
+    /// Long payloads, and lines that are too long by a little or by much.
+    fn long_line(&self, r: &mut Random) -> Vec<u8> {
+        let letter = self.kind.letter;
+        let n = match r.below(200) {
+            0..=99 => r.below(4_097),
+            100..=179 => r.between(4_094, 4_099),
+            180..=184 if self.pairs > 4_096 => r.between(4_097, self.pairs),
+            185..=187 if self.pairs > 4_096 => r.between(65_534, 65_537),
+            188..=189 if self.pairs > 4_096 => r.between(self.pairs - 1, self.pairs + 2),
+            190..=191 => return self.very_long(r),
+            _ => r.between(2_000, 4_100),
+        };
+        let payload = match letter {
+            b'T' => any_long_text(r, n),
+            _ => {
+                let mut p = (self.kind.good)(r);
+                let had = p.len().min(n);
+                p.truncate(n);
+                p.extend(r.bytes(n - had));
+                p
+            }
+        };
+        let mut line = line_of(r, letter, &payload);
+        if r.one_in(8) {
+            spoil(r, &mut line);
+        }
+        without_ends(line)
+    }
+
+    /// A line of up to 200,000 bytes that is no good one.
+    fn very_long(&self, r: &mut Random) -> Vec<u8> {
+        let n = r.between(2 * self.pairs + 3, 200_000.max(2 * self.pairs + 4));
+        let mut line = match r.below(4) {
+            0 => vec![b'0'; n],
+            1 => vec![b' '; n],
+            2 => r.bytes(n),
+            _ => {
+                let digits = r.bytes(n / 2);
+                hex(r, &digits)
+            }
+        };
+        line[0] = self.kind.letter;
+        line[1] = b' ';
+        without_ends(line)
+    }
+}
+
+/// A payload with a byte changed, cut, doubled, or bytes taken out or put in.
+fn damaged(r: &mut Random, mut p: Vec<u8>) -> Vec<u8> {
+    let at = r.below(p.len());
+    match r.below(6) {
+        0 => p[at] = r.byte(),
+        1 => p[at] ^= 1 << r.below(8),
+        2 => p.truncate(at),
+        3 => p.insert(at, p[at]),
+        4 => drop(p.remove(at)),
+        _ => p = [&p[..], &p[..]].concat(),
+    }
+    p
+}
+
+/// A text of about n bytes that is good, or bad near its end.
+fn any_long_text(r: &mut Random, n: usize) -> Vec<u8> {
+    let mut t = text(r, n);
+    t.truncate(n);
+    if r.one_in(2) {
+        let bad = broken(r);
+        let at = n.saturating_sub(r.below(12));
+        t.splice(at..at, bad);
+        t.truncate(n);
+    }
+    t
+}
+
+/// Changes one thing of a line.
+fn spoil(r: &mut Random, line: &mut Vec<u8>) {
+    const ODD: &[u8] = b" \t\r\0-+.=:/@G`gxXoOlLsS?~\x7f\x80\xff";
+    let at = r.below(line.len() + 1);
+    let odd = if r.one_in(3) { r.byte() } else { *r.pick(ODD) };
+    match r.below(9) {
+        0 => line.insert(at, odd),
+        1 if at < line.len() => line[at] = odd,
+        2 if at < line.len() => drop(line.remove(at)),
+        3 => line.push(odd),
+        4 => line.truncate(at),
+        5 => drop(line.pop()),
+        6 if !line.is_empty() => line[0] = if r.one_in(2) { *r.pick(b"UFSNOPHBTufsnop") } else { odd },
+        7 if line.len() > 1 => line[1] = odd,
+        _ => line.insert(0, odd),
+    }
+}
+
+/// A line has no byte that ends one.
+fn without_ends(mut line: Vec<u8>) -> Vec<u8> {
+    line.retain(|c| *c != b'\n');
+    line
+}
+
+// ---------------------------------------------------------------- record lines
+
+struct Records<'a> {
+    kind: &'a Kind,
+    short: bool,
+}
+
+type Token = (String, &'static str, Vec<u8>);
+
+impl Records<'_> {
+    fn fixed_lines(&self) -> Vec<Vec<u8>> {
+        let k = self.kind.letter as char;
+        let mut all: Vec<Vec<u8>> = Vec::new();
+        for end in [
+            ".", "=", "..", ". ", "= ", " =", " .", " +=", ".=", ".x", ".new.", ".new.new", ".NEW", ".neww", ".ne",
+            ".new ", " .new", ".new\t", ".new\r", ".new\0", "  flags=01", " flags=01 ", " flags=01  seid=", " flags",
+            " flags=", " flags==01", " flags+=01", " flags=1", " flags=001", " flags=0g", " flags=-", " flags =01",
+            " flags= 01", " Flags=01", " flag=01", " flagss=01", " flags=01 flags=01", " flags=01 flags", " flags=01,",
+            " flags=01.", " v4=", " v4=-", " v4=C00002", " v4=C000020", " v4=C000020100", " v4=192.0.2.1", " v6=::1",
+            "\tflags=01", " flags=01\r", " flags=01\0", " flags=\u{e9}", " \u{e9}=01",
+        ] {
+            all.push(format!("{k}{end}").into_bytes());
+        }
+        for line in [".", "=", "..", "=.", ".new", " =", "= =", "X.new", "X flags=01", "?=."] {
+            all.push(line.as_bytes().to_vec());
+        }
+        let small = k.to_ascii_lowercase();
+        for line in [format!("{small}.new"), format!("{small} flags=01"), format!("{k}{k} flags=01"), format!(" {k}.new")] {
+            all.push(line.into_bytes());
+        }
+        all
+    }
+
+    /// For each call: every choice of keys from every key on; and every flag byte with every choice of the others.
+    /// Of a builder every sequence of up to four calls.
+    fn counted(&self) -> usize {
+        self.built() + self.kind.calls.iter().map(|c| c.turned_lines() + c.flag_lines()).sum::<usize>()
+    }
+
+    /// How many sequences of up to four builder calls there are.
+    fn built(&self) -> usize {
+        match self.kind.builder.len() {
+            0 => 0,
+            n => (0..=4).map(|calls| n.pow(calls)).sum(),
+        }
+    }
+
+    /// The words of builder calls. Two addresses have a comma between them.
+    fn builder_tokens(&self, calls: &[usize], r: &mut Random) -> Vec<Token> {
+        let token = |i: &usize| {
+            let (key, width) = self.kind.builder[*i];
+            let bytes = r.bytes(width);
+            let mut value = hex(r, &bytes);
+            if key == "dual" {
+                value.insert(8, b',');
+            }
+            (key.to_string(), if width == 0 { "" } else { "=" }, value)
+        };
+        calls.iter().map(token).collect()
+    }
+
+    fn counted_line(&self, mut i: usize, r: &mut Random) -> Vec<u8> {
+        let n = self.kind.builder.len();
+        if i < self.built() {
+            let mut calls = Vec::new();
+            while i > 0 {
+                i -= 1;
+                calls.push(i % n);
+                i /= n;
+            }
+            return self.builder_line(&self.builder_tokens(&calls, r));
+        }
+        i -= self.built();
+        for c in self.kind.calls {
+            let (turned, flagged) = (c.turned_lines(), c.flag_lines());
+            if i < turned {
+                return c.line(&c.turned(i % c.choices(), i / c.choices(), r));
+            }
+            i -= turned;
+            if i < flagged {
+                let mut tokens = c.turned(1 | i / 256 << 1, 0, r);
+                tokens[0].2 = format!("{:02X}", i % 256).into_bytes();
+                return c.line(&tokens);
+            }
+            i -= flagged;
+        }
+        unreachable!()
+    }
+
+    fn builder_line(&self, tokens: &[Token]) -> Vec<u8> {
+        line_of_words(&format!("{}.build", self.kind.letter as char), tokens)
+    }
+
+    /// Builder calls with repeats, now and then spoilt.
+    fn random_build(&self, r: &mut Random) -> Vec<u8> {
+        let count = if r.one_in(20) { r.below(60) } else { r.below(10) };
+        // Of few different calls more often, since address and choice of one family are refused.
+        let few = r.bytes(4);
+        let any = r.one_in(3);
+        let calls: Vec<usize> = (0..count)
+            .map(|_| if any { r.below(self.kind.builder.len()) } else { *r.pick(&few) as usize % self.kind.builder.len() })
+            .collect();
+        let mut tokens = self.builder_tokens(&calls, r);
+        match r.below(10) {
+            0..=6 => {}
+            7 => {
+                let mut line = self.builder_line(&tokens);
+                spoil_words(r, &mut line, "F.build");
+                return without_ends(line);
+            }
+            _ if tokens.is_empty() => {}
+            _ => spoil_token(r, &mut tokens, self.short),
+        }
+        without_ends(self.builder_line(&tokens))
+    }
+
+    fn random_line(&self, r: &mut Random) -> Vec<u8> {
+        if !self.kind.builder.is_empty() && r.one_in(2) {
+            return self.random_build(r);
+        }
+        let c = r.pick(self.kind.calls);
+        let mut tokens = c.turned(c.choices() - 1, 0, r);
+        let kept = r.below(5);
+        tokens.retain(|_| r.below(4) <= kept);
+        if r.one_in(2) {
+            r.shuffle(&mut tokens);
+        }
+        if r.one_in(2) {
+            return c.line(&tokens);
+        }
+        if r.one_in(3) || tokens.is_empty() {
+            let mut line = c.line(&tokens);
+            spoil_words(r, &mut line, c.head);
+            return without_ends(line);
+        }
+        spoil_token(r, &mut tokens, self.short);
+        c.line(&tokens)
+    }
+}
+
+impl Call {
+    fn choices(&self) -> usize {
+        1 << self.keys.len()
+    }
+
+    /// A call without keys has one line.
+    fn turned_lines(&self) -> usize {
+        self.choices() * self.keys.len().max(1)
+    }
+
+    fn flag_lines(&self) -> usize {
+        match self.keys.first() {
+            Some(("flags", _)) => 256 * self.choices() / 2,
+            _ => 0,
+        }
+    }
+
+    /// The tokens of the keys whose bits are set, from a key on and around.
+    fn turned(&self, choice: usize, from: usize, r: &mut Random) -> Vec<Token> {
+        let n = self.keys.len();
+        let order = (0..n).map(|i| (from + i) % n).filter(|i| choice >> i & 1 == 1);
+        order
+            .map(|i| {
+                let (key, width) = self.keys[i];
+                let mut value = r.bytes(width);
+                if key == "flags" && !r.one_in(6) {
+                    value[0] &= self.flags;
+                }
+                if r.one_in(8) {
+                    value.fill(*r.pick(&[0, 255]));
+                }
+                (key.to_string(), if width == 0 { "" } else { "=" }, hex(r, &value))
+            })
+            .collect()
+    }
+
+    fn line(&self, tokens: &[Token]) -> Vec<u8> {
+        line_of_words(self.head, tokens)
+    }
+}
+
+fn line_of_words(head: &str, tokens: &[Token]) -> Vec<u8> {
+    let mut line = head.as_bytes().to_vec();
+    for (key, op, value) in tokens {
+        line.push(b' ');
+        line.extend(key.as_bytes());
+        line.extend(op.as_bytes());
+        line.extend(value);
+    }
+    line
+}
+
+/// Changes the words of a record line, whatever they say.
+fn spoil_words(r: &mut Random, line: &mut Vec<u8>, head: &str) {
+    let heads = [
+        ".", "=", ".new", ".New", ".ne", ".newer", ".new.new", "  ", " .", " =", "\t", ".choose", ".build", ".ipv4", ".ipv6",
+        ".dual_stack", ".choose_ipv4", ".choose_dual", ".new_with_choose", ".gtpu_ipv4", ".udp_ipv4", ".udp_ipv6", ".flags",
+        ".flags.", ".flags.new", ".flags.ipv4", ".default",
+    ];
+    match r.below(6) {
+        0 => {
+            let new = [&head.as_bytes()[..1], r.pick(&heads).as_bytes()].concat();
+            line.splice(..head.len(), new);
+        }
+        1 => line[0] = *r.pick(b"UFSNOPHBTufsnop.= "),
+        2 => {
+            let spaces: Vec<usize> = (0..line.len()).filter(|i| line[*i] == b' ').collect();
+            if !spaces.is_empty() {
+                let at = *r.pick(&spaces);
+                line.splice(at..=at, r.pick(&["  ", "\t", "", "=", " =", "\0", ".", ","]).bytes());
+            }
+        }
+        3 => line.extend(r.pick(&[" ", "\r", "\0", "\t", " x", " x=1", " =", ".", "=", " fo"]).bytes()),
+        _ => spoil(r, line),
+    }
+}
+
+/// Keys of all kinds, and some of none.
+const KEYS: [&str; 21] = [
+    "teid", "cid", "flags", "seid", "v4", "v6", "name", "fd", "", "v", "v5", "ipv4", "db", "pl", "port", "ctag", "stag", "ch4",
+    "ch6", "chdual", "dual",
+];
+
+/// Changes one token: its key, its sign, its value, or how often it is there.
+fn spoil_token(r: &mut Random, tokens: &mut Vec<Token>, short: bool) {
+    let at = r.below(tokens.len());
+    let (key, op, value) = &mut tokens[at];
+    match r.below(12) {
+        0 => {
+            let again = (key.clone(), *op, if r.one_in(2) { value.clone() } else { b"00".to_vec() });
+            let to = r.below(tokens.len() + 1);
+            tokens.insert(to, again);
+        }
+        1 => *op = *r.pick(&["", "+=", "==", "= ", " =", "-", ":", "+", "."]),
+        2 => value.clear(),
+        3 if !value.is_empty() => value.truncate(r.below(value.len())),
+        4 => value.push(b'0'),
+        5 => value.extend(b"00"),
+        6 => *value = value.repeat(2),
+        7 if !value.is_empty() => {
+            let i = r.below(value.len());
+            value[i] = *r.pick(b"gG:/@`-+ .,=*xX\0\x7f\x80\xff");
+        }
+        8 => *key = r.pick(&KEYS).to_string(),
+        9 => *key = key.to_uppercase(),
+        10 => {
+            if r.one_in(2) {
+                key.pop();
+            } else {
+                key.push(*r.pick(&['s', '+', '.', ' ', '4']));
+            }
+        }
+        _ if !short && r.one_in(100) => {
+            let n = *r.pick(&[1_000, 60_000, 65_590, 65_600, 90_000]);
+            *value = hex(&mut Random(n as u64), &vec![0xA5; n]);
+        }
+        _ => *value = r.pick(&["-", "*2", "00*2", "\"00\"", "0x00", "1.2.3.4", "::"]).as_bytes().to_vec(),
+    }
+}
+
+// ---------------------------------------------------------------- all short texts
+
+/// How many texts of at most three bytes there are.
+const SHORT_TEXTS: u64 = 1 + 256 + 65_536 + 16_777_216;
+
+fn short_text(mut i: u64) -> Vec<u8> {
+    let mut n = 0;
+    while i >= 1 << (8 * n) {
+        i -= 1 << (8 * n);
+        n += 1;
+    }
+    i.to_be_bytes()[8 - n..].to_vec()
+}
+
+// ---------------------------------------------------------------- the sequences
+
+enum Source<'a> {
+    Payloads(Payloads<'a>),
+    Records(Records<'a>),
+    ShortTexts,
+}
+
+/// A sequence: fixed lines, then those that are counted up, then random ones.
+struct Sequence<'a> {
+    seed: u64,
+    fixed: Vec<Vec<u8>>,
+    counted: usize,
+    source: Source<'a>,
+}
+
+impl<'a> Sequence<'a> {
+    fn payloads(kind: &'a Kind, pairs: usize, seed: u64, short: bool) -> Self {
+        let p = Payloads::new(kind, pairs, short);
+        let mut r = Random::of(seed, u64::MAX);
+        let mut fixed = p.odd_lines();
+        for sample in kind.samples {
+            fixed.push(format!("{} {sample}", kind.letter as char).into_bytes());
+        }
+        for n in p.limits() {
+            let mut payload = (kind.good)(&mut r);
+            payload.resize(n, b'a');
+            fixed.push(line_of(&mut r, kind.letter, &payload));
+        }
+        Sequence { seed, fixed, counted: p.counted(), source: Source::Payloads(p) }
+    }
+
+    fn records(kind: &'a Kind, seed: u64, short: bool) -> Self {
+        let p = Records { kind, short };
+        // The same seed as the payloads' must not give the same numbers.
+        let seed = seed ^ 0x5EED_0F0F_4EC0_4D5A;
+        Sequence { seed, fixed: p.fixed_lines(), counted: p.counted(), source: Source::Records(p) }
+    }
+
+    fn short_texts(seed: u64) -> Self {
+        Sequence { seed, fixed: Vec::new(), counted: SHORT_TEXTS as usize, source: Source::ShortTexts }
+    }
+
+    fn line(&self, i: u64) -> Vec<u8> {
+        let n = i as usize;
+        if n < self.fixed.len() {
+            return self.fixed[n].clone();
+        }
+        self.later(n - self.fixed.len(), i)
+    }
+
+    /// A line behind the fixed ones: the counted, then the random.
+    fn later(&self, n: usize, i: u64) -> Vec<u8> {
+        let mut r = Random::of(self.seed, i);
+        match (&self.source, n < self.counted) {
+            (Source::Payloads(p), true) => p.counted_line(n, &mut r),
+            (Source::Payloads(p), false) => p.random_line(&mut r),
+            (Source::Records(p), true) => p.counted_line(n, &mut r),
+            (Source::Records(p), false) => p.random_line(&mut r),
+            (Source::ShortTexts, true) => line_of(&mut Random(0), b'T', &short_text(n as u64)),
+            (Source::ShortTexts, false) => stop("there are no more texts of at most three bytes"),
+        }
+    }
+
+    /// The line i of a short list of n: the fixed, then counted ones spread over all, and random ones.
+    fn listed(&self, i: u64, n: u64) -> Vec<u8> {
+        let (i, fixed) = (i as usize, self.fixed.len());
+        if i < fixed {
+            return self.fixed[i].clone();
+        }
+        let (k, left) = (i - fixed, (n as usize).saturating_sub(fixed).max(1));
+        if k % 2 == 0 {
+            self.later(self.counted * k / left, i as u64)
+        } else {
+            self.later(self.counted + k, i as u64)
+        }
+    }
+}
+
+// ---------------------------------------------------------------- the command
+
+fn stop(why: &str) -> ! {
+    eprintln!("gen: {why}");
+    std::process::exit(2)
+}
+
+fn number(word: Option<String>, what: &str) -> u64 {
+    word.and_then(|w| w.parse().ok()).unwrap_or_else(|| stop(&format!("{what} is wanted as a number")))
+}
+
+fn main() {
+    let mut args = std::env::args().skip(1);
+    let usage = "usage: gen KIND N SEED [--form case|full|build|mixed|all] [--from A] [--open] [--list]";
+    let letter = args.next().unwrap_or_else(|| stop(usage));
+    let count = number(args.next(), "N");
+    let seed = number(args.next(), "SEED");
+    let (mut form, mut from, mut open, mut list) = (String::from("case"), 0, false, false);
+    while let Some(a) = args.next() {
+        match a.as_str() {
+            "--form" => form = args.next().unwrap_or_else(|| stop(usage)),
+            "--from" => from = number(args.next(), "A"),
+            "--open" => open = true,
+            "--list" => list = true,
+            _ => stop(usage),
+        }
+    }
+    let kind = KINDS.iter().find(|k| letter.as_bytes() == [k.letter]);
+    let kind = kind.unwrap_or_else(|| stop(&format!("no kind {letter} yet")));
+    let built = !kind.calls.is_empty();
+    let sequences = match form.as_str() {
+        "case" => vec![Sequence::payloads(kind, 4_096, seed, list)],
+        "full" => vec![Sequence::payloads(kind, 65_600, seed, list)],
+        "build" if built => vec![Sequence::records(kind, seed, list)],
+        "mixed" if built => {
+            vec![Sequence::payloads(kind, 65_600, seed, list), Sequence::records(kind, seed, list)]
+        }
+        "all" if kind.letter == b'T' => vec![Sequence::short_texts(seed)],
+        _ => stop(&format!("{letter} has no form {form}")),
+    };
+    let turns = sequences.len() as u64;
+    let mut out = std::io::BufWriter::with_capacity(1 << 16, std::io::stdout().lock());
+    for i in from..from + count {
+        let s = &sequences[(i % turns) as usize];
+        let mut line = if list { s.listed(i / turns, count / turns) } else { s.line(i / turns) };
+        if !(open && i + 1 == from + count) {
+            line.push(b'\n');
+        }
+        if out.write_all(&line).is_err() {
+            return;
+        }
+    }
+    let _ = out.flush();
+}
