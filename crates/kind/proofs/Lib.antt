@@ -1,4 +1,5 @@
 pub mod Laws
 pub mod Rows
 pub mod Demand3
+pub mod Promise
 pub mod Fixed
