@@ -1,11 +1,11 @@
 -- Laws of what is printed for a line. No contract cites this file.
-use Prim.Native.Nat.{ℕ, suc, _+_, _-_, _*_, _<_, _≤_}
+use Prim.Native.Nat.{ℕ, suc, _+_, _-_, _*_, _^_, _<_, _≤_}
 use native.Mathlib.Omega.{arith}
 use mathlib.Core.Path.{_≡_, refl, sym, ap, _∙_}
 use mathlib.Core.Bool.{Bool, true, false}
 use mathlib.Core.List.{List, [], _∷_, _++_, append-assoc}
 use mathlib.Core.Option.{Option, none, some, bind}
-use lib.ListN.{length, take, drop, getD, length-append}
+use lib.ListN.{length, take, drop, getD, length-append, length-take}
 use lib.Seq.{take-all}
 use lib.Dec.{leb, eqb}
 use borrow.Author.Tests.{le-leb, lt-leb, eq-eqb, ne-eqb, eqb-true, leb-true}
@@ -13,12 +13,15 @@ use Rattle.answer.specs.declared.Answer.{Answer}
 use Rattle.answer.specs.declared.Answer.the-variants.{Done, Short, Flags, NodeType, NotUtf8, TooLong, BadText, TooWide, NoRoom, Unbuilt}
 use Rattle.answer.specs.declared.Written.{Written}
 use Rattle.answer.specs.Paper.{numberOf, wrote, written}
-use Rattle.octets.specs.Octets.{pick, under, put}
-use Rattle.octets.proofs.Laws.{put-not, put-behind, put-start}
-use Rattle.kind.specs.Kind.{Reader}
+use Rattle.octets.specs.Octets.{pick, under, Bytes, put}
+use Rattle.octets.proofs.Laws.{under-le, put-not, put-behind, put-start}
+use Rattle.kind.specs.Kind.{Reads, Kind}
+use Rattle.kind.specs.Write.{answered, stored}
 use Rattle.hex.specs.Hex.{spelled, pairs, decimal}
-use Rattle.hex.proofs.Laws.{length-spelled}
-use Rattle.case_line.specs.Line.{Row, row, rowOf, rowFor, allPairs, payload, lineRow, hexOrDash, shown, taken}
+use Rattle.hex.proofs.Laws.{length-spelled, decimal-most}
+use Rattle.case_line.specs.declared.LineRow.{LineRow}
+use Rattle.case_line.specs.Steps.{rowIn, redone}
+use Rattle.case_line.specs.Line.{Row, row, rowOf, rowFor, allPairs, payload, lineRow, hexOrDash, shown, printed, taken}
 
 -- ---- outputs
 -- two puts, one behind the other
@@ -35,9 +38,6 @@ puts-none o d h = (rw (lt-leb _ _ h), sym (put-not d 0 (shown o) (omega arith)))
 pub puts-all : (o : Option Row) (d d′ : List ℕ) (n : ℕ) → n ≡ length (shown o) → n ≤ length d → d′ ≡ put d 0 (shown o) → Puts o d d′ n
 puts-all o d d′ n e h q = (e ∙ rw (le-leb (length (shown o)) (length d) (omega arith)), q)
 
-pub puts-as : (o p : Option Row) (d d′ : List ℕ) (n : ℕ) → o ≡ p → Puts o d d′ n → Puts p d d′ n
-puts-as o p d d′ n e h = rw e at h
-
 taken-fits : (n m : ℕ) → taken n m ≤ m
 taken-fits n m = go (leb n m) refl
   where
@@ -45,11 +45,11 @@ taken-fits n m = go (leb n m) refl
     go true e = leb-true n m e
     go false e = omega arith
 
--- the same of another row that is the same, with the bound that follows
-pub puts-within : (o p : Option Row) (d d′ : List ℕ) (n : ℕ) → o ≡ p → Puts o d d′ n → (n ≡ taken (length (shown p)) (length d)) × ((d′ ≡ put d 0 (shown p)) × (n ≤ length d))
-puts-within o p d d′ n e h =
-    let q = puts-as o p d d′ n e h in
-    (q .0, (q .1, omega (arith, q .0, taken-fits (length (shown p)) (length d))))
+-- the same of a line that has that row, with the bounds that follow
+pub puts-line : (o : Option Row) (line d d′ : List ℕ) (n : ℕ) → o ≡ lineRow line → length (shown o) ≤ 8218 → Puts o d d′ n
+    → (n ≡ taken (length (printed line)) (length d)) × ((d′ ≡ put d 0 (printed line)) × ((n ≤ length d) × (length (printed line) ≤ 8218)))
+unfolding printed
+puts-line o line d d′ n e l h = rw (← e) (h .0, (h .1, (omega (arith, h .0, taken-fits (length (shown o)) (length d)), l)))
 
 -- ---- a row as it is printed
 pub dash : (bs : List ℕ) → length bs ≡ 0 → hexOrDash bs ≡ 0x2D ∷ []
@@ -67,10 +67,19 @@ unfolding hexOrDash under
 length-hexOrDash [] = refl
 length-hexOrDash (b ∷ bs) = rw (ne-eqb (suc (length bs)) 0 (λ (q : suc (length bs) ≡ 0). omega arith)) (omega (arith, length-spelled (b ∷ bs)))
 
+hex-most : (m : ℕ) (bs : List ℕ) → 1 ≤ m → length bs ≤ m → length (hexOrDash bs) ≤ 2 * m
+unfolding hexOrDash
+hex-most m [] p h = omega arith
+hex-most m (b ∷ bs) p h = omega (arith, length-spelled (b ∷ bs))
+
 module _ (number used : ℕ) (bs : List ℕ) where
   pub length-shown : length (shown (some (row number used bs))) ≡ length (decimal number) + 1 + (length (decimal used) + 1) + (length (hexOrDash bs) + 1)
   unfolding shown
   length-shown = simp length-append (omega arith)
+
+  -- a row of 4,096 bytes at most
+  pub shown-most : number < 256 → used < 2 ^ 64 → length bs ≤ 4096 → length (shown (some (row number used bs))) ≤ 8218
+  shown-most h g l = omega (arith, length-shown, decimal-most 2 number (omega arith), decimal-most 19 used (omega arith), hex-most 4096 bs (omega arith) l)
 
   -- its three parts, one behind the other
   pub three-parts : decimal number ++ (0x20 ∷ []) ++ (decimal used ++ (0x20 ∷ [])) ++ (hexOrDash bs ++ (0x0A ∷ [])) ≡ shown (some (row number used bs))
@@ -79,7 +88,7 @@ module _ (number used : ℕ) (bs : List ℕ) where
 
 -- ---- the row of a kind
 -- only the number 0 is a read that is done
-pub done : (a : Answer) → numberOf a ≡ 0 → a ≡ Done
+done : (a : Answer) → numberOf a ≡ 0 → a ≡ Done
 done Done e = refl
 done (Short field expected actual) e = absurd (omega arith)
 done (Flags byte rule) e = absurd (omega arith)
@@ -91,36 +100,70 @@ done TooWide e = absurd (omega arith)
 done (NoRoom needed) e = absurd (omega arith)
 done (Unbuilt rule) e = absurd (omega arith)
 
-written-fits : (n m : ℕ) → written n m .len ≤ m
-written-fits n m = go (leb n m) refl
+-- no write answers a length past its output
+answered-fits : (o : Option Answer) (bs : List ℕ) (m : ℕ) → answered o bs m .len ≤ m
+unfolding answered
+answered-fits (some a) bs m = omega arith
+answered-fits none bs m = go (leb (length bs) m) refl
   where
-    go : (t : Bool) → leb n m ≡ t → wrote t n .len ≤ m
-    go true e = leb-true n m e
+    go : (t : Bool) → leb (length bs) m ≡ t → wrote t (length bs) .len ≤ m
+    go true e = leb-true (length bs) m e
     go false e = omega arith
 
--- what is shown of a written form lies in the output that it was written into
-pub row-fits : (n m k : ℕ) (w : Written) → w ≡ written m k → n ≤ w .len → n ≤ k
-row-fits n m k w e h = omega (arith, ap (λ (w : Written). w .len) e, written-fits m k)
+-- a kind whose cleared payloads are as long as they were
+module _ (k : Kind) (same : (s : List ℕ) → length (k .clear s) ≡ length s) where
+  -- what was read is written in no more bytes than the payload has
+  no-longer : {s : List ℕ} {v : k .Value} {n : ℕ} → Reads (k .reader) s v n → length (k .wire v) ≤ length s
+  no-longer {s} {v} {n} r = omega (arith, ap length (k .written r) ∙ same (take n s) ∙ length-take n s)
 
--- what was read, and what was written into d where that has room for it, is the row
-pub kind-row : {Value : Type 0} (r : Reader Value) (wire : Value → List ℕ) (s d d′ : List ℕ) (number used n : ℕ) (w : Written)
-    → number ≡ numberOf (r .answer s)
-    → used ≡ r .used s
-    → w ≡ written (length (wire (r .value s))) (length d)
-    → d′ ≡ put d 0 (wire (r .value s))
-    → n ≡ under (eqb number 0) (w .len)
-    → (r .answer s ≡ Done → length (wire (r .value s)) ≤ length d)
-    → row number used (take n d′) ≡ rowOf r wire s
-unfolding rowOf under
-kind-row r wire s d d′ number used n w a b c e f room =
-    rw (a, b) (ap (row (numberOf (r .answer s)) (r .used s)) (ap (λ (k : ℕ). take k d′) (rw a at f) ∙ go (eqb (numberOf (r .answer s)) 0) refl))
-  where
-    go : (t : Bool) → eqb (numberOf (r .answer s)) 0 ≡ t → take (under t (w .len)) d′ ≡ pick t (wire (r .value s)) []
-    go false q = refl
-    go true q =
-        let fits = room (done (r .answer s) (eqb-true (numberOf (r .answer s)) 0 q)) in
-        let l : w .len ≡ length (wire (r .value s)) = rw (c, le-leb (length (wire (r .value s))) (length d) fits) in
-        rw (l, e) (put-start d (wire (r .value s)) fits)
+  -- a payload that was read, and its record written into d, which is no shorter: the row, and that its bytes lie in d. What was read is refused by no test that comes before room
+  pub redo : (s d d′ : List ℕ) (a : Answer) (used : ℕ) (v : k .Value) (refused : Option Answer) (w : Written) (r : LineRow)
+      → Bytes s
+      → length s ≤ length d
+      → a ≡ k .reader .answer s
+      → used ≡ k .reader .used s
+      → v ≡ k .reader .value s
+      → (Reads (k .reader) s v used → refused ≡ none)
+      → w ≡ answered refused (k .wire v) (length d)
+      → d′ ≡ stored refused d (k .wire v)
+      → r ≡ redone a used (w .len)
+      → (rowIn r d′ ≡ some (rowOf (k .reader) (k .wire) s)) × (r .len ≤ length d)
+  unfolding rowIn rowOf under answered stored
+  redo s d d′ a used v refused w r b h ea eu ev able ew ed er = (
+    rw (er, go (eqb (numberOf a) 0) refl, ea, eu, ev),
+    omega (arith, ap (λ (r : LineRow). r .len) er, under-le (eqb (numberOf a) 0) (w .len), ap (λ (w : Written). w .len) ew, answered-fits refused (k .wire v) (length d)),
+  )
+    where
+      go : (t : Bool) → eqb (numberOf a) 0 ≡ t → take (under t (w .len)) d′ ≡ pick t (k .wire v) []
+      go false q = refl
+      go true q =
+          let reads : Reads (k .reader) s v used = record { bytes = b; done = sym ea ∙ done a (eqb-true (numberOf a) 0 q); value = sym ev; used = sym eu } in
+          let fits : length (k .wire v) ≤ length d = omega (arith, no-longer reads) in
+          let l : w .len ≡ length (k .wire v) = rw (ew, able reads, le-leb (length (k .wire v)) (length d) fits) in
+          rw (l, ed, able reads) (put-start d (k .wire v) fits)
+
+  -- the same of a kind that no such test refuses
+  pub redo-fixed : (s d d′ : List ℕ) (a : Answer) (used : ℕ) (v : k .Value) (w : Written) (r : LineRow)
+      → Bytes s
+      → length s ≤ length d
+      → a ≡ k .reader .answer s
+      → used ≡ k .reader .used s
+      → v ≡ k .reader .value s
+      → w ≡ written (length (k .wire v)) (length d)
+      → d′ ≡ put d 0 (k .wire v)
+      → r ≡ redone a used (w .len)
+      → (rowIn r d′ ≡ some (rowOf (k .reader) (k .wire) s)) × (r .len ≤ length d)
+  unfolding answered stored
+  redo-fixed s d d′ a used v w r b h ea eu ev ew ed er = redo s d d′ a used v none w r b h ea eu ev (λ reads. refl) ew ed er
+
+-- a row that isn't there
+pub no-row : (r : LineRow) (bs : List ℕ) (o : Option Row) → rowIn r bs ≡ o → r .known ≡ false → none ≡ o
+unfolding rowIn
+no-row r bs o e h = rw h at e
+
+pub a-row : (r : LineRow) (bs : List ℕ) (o : Option Row) → rowIn r bs ≡ o → r .known ≡ true → some (row (r .number) (r .used) (take (r .len) bs)) ≡ o
+unfolding rowIn
+a-row r bs o e h = rw h at e
 
 -- ---- the payload of a text
 pub payload-none : (text : List ℕ) → length text ≡ 0 → payload text ≡ none
@@ -146,14 +189,14 @@ payload-pairs (x ∷ y ∷ text) d d′ len h g l e q r =
     let got : take len d′ ≡ bs = rw (q′, e′) (put-start d bs (omega arith)) in
     rw (got, e′)
 
--- what a text prints, by its payload
-pub good-text : (letter : ℕ) (good : Bool) (text bs d d′ : List ℕ) (n : ℕ) → payload text ≡ pick good (some bs) none → good ≡ true → Puts (rowFor letter bs) d d′ n → Puts (bind (payload text) (rowFor letter)) d d′ n
+-- the row of a letter and a text, by its payload
+pub good-text : (letter : ℕ) (good : Bool) (text bs : List ℕ) → payload text ≡ pick good (some bs) none → good ≡ true → bind (payload text) (rowFor letter) ≡ rowFor letter bs
 unfolding bind
-good-text letter good text bs d d′ n e g h = rw (e, g) h
+good-text letter good text bs e g = rw (e, g)
 
-pub bad-text : (letter : ℕ) (good : Bool) (text bs d d′ : List ℕ) (n : ℕ) → payload text ≡ pick good (some bs) none → good ≡ false → Puts none d d′ n → Puts (bind (payload text) (rowFor letter)) d d′ n
+pub bad-text : (letter : ℕ) (good : Bool) (text bs : List ℕ) → payload text ≡ pick good (some bs) none → good ≡ false → bind (payload text) (rowFor letter) ≡ none
 unfolding bind
-bad-text letter good text bs d d′ n e g h = rw (e, g) h
+bad-text letter good text bs e g = rw (e, g)
 
 -- ---- the row of a line
 pub too-short : (line : List ℕ) → length line < 2 → lineRow line ≡ none

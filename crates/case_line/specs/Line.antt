@@ -10,7 +10,9 @@ use Rattle.kind.specs.Kind.{Reader}
 use Rattle.ue_ip_address.specs.UeIpAddress as ue
 use Rattle.f_teid.specs.Fteid as fteid
 use Rattle.fseid.specs.Fseid as fseid
+use Rattle.node_id.specs.NodeId as nodeId
 use Rattle.outer_header_creation.specs.OuterHeaderCreation as ohc
+use Rattle.pfd_contents.specs.PfdContents as pfd
 use Rattle.hex.specs.Hex.{spelled, pairs, decimal}
 
 -- what is said of a payload: answer number, used count, and the written bytes, none where the read is refused
@@ -36,17 +38,25 @@ rowF s = rowOf fteid.reader fteid.wire s
 abbrev pub rowS : List ℕ → Row
 rowS s = rowOf fseid.reader fseid.wire s
 
+abbrev pub rowN : List ℕ → Row
+rowN s = rowOf nodeId.reader nodeId.wire s
+
 abbrev pub rowO : List ℕ → Row
 rowO s = rowOf ohc.reader ohc.wire s
 
--- and their letters: U, F, S, O. No other letter has a row
+abbrev pub rowP : List ℕ → Row
+rowP s = rowOf pfd.reader pfd.wire s
+
+-- and their letters: U, F, S, N, O, P. No other letter has a row
 unfoldable pub rowFor : ℕ → List ℕ → Option Row
 rowFor letter s =
     pick (eqb letter 0x55) (some (rowU s))
     (pick (eqb letter 0x46) (some (rowF s))
     (pick (eqb letter 0x53) (some (rowS s))
+    (pick (eqb letter 0x4E) (some (rowN s))
     (pick (eqb letter 0x4F) (some (rowO s))
-    none)))
+    (pick (eqb letter 0x50) (some (rowP s))
+    none)))))
 
 -- digit pairs, 4,096 at most, and nothing behind them
 unfoldable pub allPairs : List ℕ → Option (List ℕ)

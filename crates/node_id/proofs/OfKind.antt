@@ -3,15 +3,19 @@ use Prim.Native.Nat.{ℕ, suc, _+_, _≤_, _<_}
 use native.Mathlib.Omega.{arith}
 use mathlib.Core.Path.{_≡_, refl, sym, ap, _∙_}
 use mathlib.Core.List.{List, [], _∷_}
+use mathlib.Core.Option.{none}
 use lib.ListN.{length, getD, take, drop, length-drop}
 use lib.Seq.{length-take-le, take-length, take-all}
+use borrow.Author.Tests.{le-leb, eq-eqb}
 use Rattle.octets.specs.Octets.{Bytes, field, put}
 use Rattle.octets.proofs.Laws.{bytes-take, field-take, take-first}
 use Rattle.text.specs.Utf8.{goodLen}
+use Rattle.texts.specs.Texts.{isText}
 use Rattle.kind.specs.Kind.{Reads, Kind}
+use Rattle.kind.specs.Write.{_then_}
 use Rattle.kind.specs.Demand3.{Demand3}
 use Rattle.kind.proofs.Demand3.{demand3}
-use Rattle.node_id.specs.NodeId.{Value, meant, meaning, wire, read, reader, ofIpv4, ofIpv6, named}
+use Rattle.node_id.specs.NodeId.{Value, meant, meaning, wire, read, reader, ofIpv4, ofIpv6, named, textual, refusal}
 use Rattle.node_id.proofs.Laws.{whole4, whole6, wholeName, Form, form4, form6, formName, formed}
 
 first-take : (n : ℕ) (s : List ℕ) → getD (take (suc n) s) 0 0 ≡ getD s 0 0
@@ -24,10 +28,11 @@ pub record Cut (s : List ℕ) : Type 0 where
   pub within : used ≤ length s
   pub is-used : read s .used ≡ used
   pub rewritten : wire (meaning s (read s .«record»)) ≡ take used s
+  pub able : textual (read s .«record» .kind) (isText s (read s .«record» .name)) ≡ none
   pub again : Bytes s → Reads reader (take used s) (meaning s (read s .«record»)) used
 
 cut-of : (s : List ℕ) → length s ≤ 65535 → Form s → Cut s
-unfolding meaning meant wire
+unfolding meaning meant wire textual isText
 cut-of s f (form4 h e) =
     let q = whole4 s f h e in
     let l : length (take 5 s) ≡ 5 = length-take-le 5 s h in
@@ -38,6 +43,7 @@ cut-of s f (form4 h e) =
       within = h;
       is-used = rw q;
       rewritten = rw q (sym (take-first 4 s (omega arith) ∙ ap (λ (b : ℕ). b ∷ field s 1 4) e));
+      able = rw q;
       again = λ b. record { bytes = bytes-take 5 s b; done = rw q′; value = rw (q, q′, a); used = rw q′ };
     }
 cut-of s f (form6 h e) =
@@ -50,6 +56,7 @@ cut-of s f (form6 h e) =
       within = h;
       is-used = rw q;
       rewritten = rw q (sym (take-first 16 s (omega arith) ∙ ap (λ (b : ℕ). b ∷ field s 1 16) e));
+      able = rw q;
       again = λ b. record { bytes = bytes-take 17 s b; done = rw q′; value = rw (q, q′, a); used = rw q′ };
     }
 cut-of s f (formName h e) =
@@ -61,6 +68,7 @@ cut-of s f (formName h e) =
       within = omega arith;
       is-used = rw q;
       rewritten = rw (q, all, text) (sym (cons s (omega arith) ∙ ap (λ (b : ℕ). b ∷ drop 1 s) e));
+      able = rw (q, text, le-leb (1 + goodLen (drop 1 s)) (length s) (omega arith), eq-eqb (goodLen (drop 1 s)) _ refl);
       again = λ b. rw all (record { bytes = b; done = rw q; value = refl; used = rw q });
     }
   where
@@ -74,6 +82,14 @@ module _ {s : List ℕ} {v : Value} {n : ℕ} (r : Reads reader s v n) where
 
   pub rewritten : wire v ≡ take n s
   rewritten = rw (← r .value, ← r .used, the-cut .is-used) (the-cut .rewritten)
+
+  -- what was read can be written: neither 5 nor 6 nor 7
+  pub writable : refusal s (read s .«record») ≡ none
+  unfolding refusal _then_
+  writable =
+      let fits = formed s (r .done) .0 in
+      let l : length (wire (meaning s (read s .«record»))) ≤ 65535 = omega (arith, ap length (the-cut .rewritten) ∙ length-take-le (the-cut .used) s (the-cut .within), the-cut .within) in
+      rw (le-leb _ _ fits, the-cut .able, le-leb _ _ l)
 
   pub read-again : Reads reader (take n s) v (length (take n s))
   read-again =

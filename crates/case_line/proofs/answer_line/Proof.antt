@@ -1,74 +1,65 @@
--- `case_line::answer_line` meets its contract: by the letter and the space that a line begins with.
+-- `case_line::answer_line` meets its contract: by whether the line has a row.
+use native.Mathlib.Omega.{arith}
 use mathlib.Core.Path.{sym}
-use Rattle.case_line.specs.Line.{printed}
-use Rattle.case_line.proofs.Laws.{puts-within, too-short, no-space, shaped}
+use mathlib.Core.Option.{none, some}
+use lib.ListN.{length-take}
+use lib.Seq.{length-take-le}
+use Rattle.case_line.specs.Line.{shown}
+use Rattle.case_line.proofs.Laws.{puts-line, shown-most, no-row, a-row}
 use borrow.Author.Needs.{needs}
 use Rattle.case_line.proofs.answer_line.Statement.{statement}
 use Rattle.case_line.proofs.answer_line.Tie as tie
 
-put-other-requires : tie.Need-put-other-requires
-put-other-requires c κs = search needs
+slice-aggregate-row-of-line : tie.Need-slice-aggregate-row-of-line
+slice-aggregate-row-of-line c = search needs
+
+row-of-line-requires : tie.Need-row-of-line-requires
+row-of-line-requires c κs = search needs
+
+array-share-prefix-bytes : tie.Need-array-share-prefix-bytes
+array-share-prefix-bytes c = search needs
+
+slice-aggregate-put-row : tie.Need-slice-aggregate-put-row
+slice-aggregate-put-row c = sym (length-take-le _ _ (omega (arith, c .before .before .before .before .row-of-line .kept .1 .0)))
+
+put-row-requires : tie.Need-put-row-requires
+put-row-requires c κs = search needs
 
 same-length : tie.Need-same-length
 same-length c = search needs
 
 returns : tie.Need-returns
-unfolding printed
-returns c = puts-within _ _ _ _ _ (sym (too-short _ (c .before .before .before .before .if1 .taken))) (c .before .before .put-other .ensures)
+returns c =
+    let p = c .before .before in
+    let known = p .before .before .before in
+    let r = known .before .before in
+    puts-line _ _ _ _ _ (a-row _ _ _ (r .row-of-line .ensures .0) (known .if1 .taken)) (shown-most _ _ _ (omega arith) (omega arith) (omega (arith, length-take (r .row-of-line .result .len) (r .row-of-line .last .1 .0), r .row-of-line .ensures .1))) (p .put-row .ensures)
 
-shared-slice-read-if2 : tie.Need-shared-slice-read-if2
-shared-slice-read-if2 c = search needs
-
-put-other-requires-2 : tie.Need-put-other-requires-2
-put-other-requires-2 c κs = search needs
+put-other-requires : tie.Need-put-other-requires
+put-other-requires c κs = search needs
 
 same-length-2 : tie.Need-same-length-2
 same-length-2 c = search needs
 
 returns-2 : tie.Need-returns-2
-unfolding printed
-returns-2 c = puts-within _ _ _ _ _ (sym (no-space _ (c .before .before .before .before .if2 .taken))) (c .before .before .put-other2 .ensures)
-
-shared-slice-read-put-text : tie.Need-shared-slice-read-put-text
-shared-slice-read-put-text c = search needs
-
-sub-put-text : tie.Need-sub-put-text
-sub-put-text c = search needs
-
-part-put-text-start : tie.Need-part-put-text-start
-part-put-text-start c = search needs
-
-part-put-text-end : tie.Need-part-put-text-end
-part-put-text-end c = search needs
-
-put-text-requires : tie.Need-put-text-requires
-put-text-requires c κs = search needs
-
-same-length-3 : tie.Need-same-length-3
-same-length-3 c = search needs
-
-returns-3 : tie.Need-returns-3
-unfolding printed
-returns-3 c =
-    let t = c .before .before in
-    let e = t .before .before .before .before in
-    puts-within _ _ _ _ _ (sym (shaped _ (e .if2 .left))) (t .put-text .ensures)
+unfolding shown
+returns-2 c =
+    let p = c .before .before in
+    let other = p .before .before in
+    let r = other .before .before in
+    puts-line none _ _ _ _ (no-row _ _ _ (r .row-of-line .ensures .0) (other .if1 .left)) (omega arith) (p .put-other .ensures)
 
 pub answer-line-spec : {M : Type 1} → statement M
 answer-line-spec =
     tie.close
     (tie.spec
-    put-other-requires
+    slice-aggregate-row-of-line
+    row-of-line-requires
+    array-share-prefix-bytes
+    slice-aggregate-put-row
+    put-row-requires
     same-length
     returns
-    shared-slice-read-if2
-    put-other-requires-2
+    put-other-requires
     same-length-2
-    returns-2
-    shared-slice-read-put-text
-    sub-put-text
-    part-put-text-start
-    part-put-text-end
-    put-text-requires
-    same-length-3
-    returns-3)
+    returns-2)
