@@ -2,14 +2,16 @@
 use libc::STDIN_FILENO;
 use libc::STDOUT_FILENO;
 ghost use mathlib.Core.Path.{_≡_};
-ghost use Prim.Native.Nat.{_≤_};
+ghost use Prim.Native.Nat.{_+_, _≤_};
 ghost use lib.ListN.{length};
+ghost use Rattle.octets.specs.Octets.{put};
+ghost use Rattle.case_line.specs.Line.{printed};
 
 // A letter, a space and 4,096 digit pairs, and a byte more: a line that goes on past these is another line, whatever follows.
 const LONGEST: usize = 8195;
 
-// A row's number, used count and 4,096 bytes in hex, two spaces and its end.
-const ROW: usize = 8200;
+// What the longest row takes, by the promise of `answer_line`.
+const ROW: usize = 8218;
 
 // Where the output is filled up to, and whether it could be written where that was due.
 struct Filled {
@@ -17,21 +19,26 @@ struct Filled {
     ok: bool,
 }
 
-// Answers a line behind `done` bytes of the output, or at its start, once these are written, where it may lack the room.
-fn answer(line: &[u8], output: &mut [u8], done: usize) -> Filled
-    requires { ⌜ done ≤ length (now output) ⌝ }
-    ensures { λ r. ⌜ r .done ≤ length (now (output .entry)) ⌝ }
+// Makes room for a row: writes the output, so that it is filled up to its start, where the longest one doesn't fit behind `done`.
+fn make_room(output: &[u8], done: usize) -> Filled
+    requires { ⌜ (done ≤ length (now output)) × (8218 ≤ length (now output)) ⌝ }
+    ensures { λ r. ⌜ r .done + 8218 ≤ length (now (output .entry)) ⌝ }
 {
     if output.len() - done < ROW {
         let ok = io::write_all(STDOUT_FILENO, &output[..done]);
-        let n = case_line::answer_line(line, output);
-        return Filled { done: n, ok };
+        return Filled { done: 0, ok };
     }
-    let n = case_line::answer_line(line, &mut output[done..]);
-    Filled {
-        done: done + n,
-        ok: true,
-    }
+    Filled { done, ok: true }
+}
+
+// Puts what is printed for a line behind `done` bytes of the output, all of it, and answers where it ends.
+fn answer(line: &[u8], output: &mut [u8], done: usize) -> usize
+    requires { ⌜ done + 8218 ≤ length (now output) ⌝ }
+    ensures { λ r. ⌜ r ≡ done + length (printed (now (line .entry))) ⌝ }
+    ensures { λ r. ⌜ now (output .exit) ≡ put (now (output .entry)) done (printed (now (line .entry))) ⌝ }
+    ensures { λ r. ⌜ r ≤ length (now (output .entry)) ⌝ }
+{
+    done + case_line::answer_line(line, &mut output[done..])
 }
 
 // Where the first line that has no end starts, and whether all answers could be written.
@@ -42,7 +49,7 @@ struct Lines {
 
 // Answers the lines of the input that have an end. The first `searched` bytes have none.
 fn answer_lines(input: &[u8], searched: usize, output: &mut [u8]) -> Lines
-    requires { ⌜ searched ≤ length (now input) ⌝ }
+    requires { ⌜ (searched ≤ length (now input)) × (8218 ≤ length (now output)) ⌝ }
     ensures { λ r. ⌜ r .start ≤ length (now (input .entry)) ⌝ }
 {
     let n = input.len();
@@ -50,11 +57,11 @@ fn answer_lines(input: &[u8], searched: usize, output: &mut [u8]) -> Lines
     let mut done = 0;
     let mut at = bytes::scan::find(input, searched, n, b'\n');
     while at < n {
-        let filled = answer(&input[start..at], output, done);
-        if !filled.ok {
+        let room = make_room(output, done);
+        if !room.ok {
             return Lines { start, ok: false };
         }
-        done = filled.done;
+        done = answer(&input[start..at], output, room.done);
         start = at + 1;
         at = bytes::scan::find(input, start, n, b'\n');
     }
@@ -103,7 +110,7 @@ struct Rest {
 
 // Reads once, and answers the lines that have an end. Where the read fails, or the answers can't be written, nothing is kept.
 fn take_turn(input: &mut [u8], kept: usize, output: &mut [u8]) -> Rest
-    requires { ⌜ (kept ≤ 8195) × (length (now input) ≡ 65536) ⌝ }
+    requires { ⌜ (kept ≤ 8195) × (length (now input) ≡ 65536) × (length (now output) ≡ 65536) ⌝ }
     ensures { λ r. ⌜ r .kept ≤ 8195 ⌝ }
 {
     let got = read_behind(input, kept);
@@ -133,7 +140,7 @@ fn take_turn(input: &mut [u8], kept: usize, output: &mut [u8]) -> Rest
 // Answers the lines of the input, and says how much of an unfinished last one stands at the front. A proved loop has to end, and
 // nothing says that an input does, so the turns are counted down from a number that no run uses up.
 fn answer_input(input: &mut [u8], output: &mut [u8]) -> usize
-    requires { ⌜ length (now input) ≡ 65536 ⌝ }
+    requires { ⌜ (length (now input) ≡ 65536) × (length (now output) ≡ 65536) ⌝ }
     ensures { λ r. ⌜ r ≤ 8195 ⌝ }
 {
     let mut kept = 0;
@@ -156,6 +163,6 @@ fn main() {
     if kept == 0 {
         return;
     }
-    let n = case_line::answer_line(&input[..kept], &mut output);
+    let n = answer(&input[..kept], &mut output, 0);
     io::write_all(STDOUT_FILENO, &output[..n]);
 }

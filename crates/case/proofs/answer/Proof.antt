@@ -1,31 +1,32 @@
--- `case::answer` is safe, and keeps within the output.
+-- `case::answer` meets its contract: what is put at the start of a part stands at the part's place.
+use Prim.Native.Nat.{ℕ, _+_, _-_, _≤_}
+use native.Mathlib.Nat.{zero-add}
 use native.Mathlib.Omega.{arith}
-use mathlib.Core.Path.{sym}
-use lib.Seq.{length-take-le}
+use mathlib.Core.Path.{_≡_, sym, ap, ap₂, _∙_}
+use mathlib.Core.List.{List, _++_}
+use lib.ListN.{length, drop, length-drop}
+use lib.Seq.{length-take-le, take-length}
+use borrow.Author.Tests.{le-leb}
+use borrow.Rule.Slice.PartMut.{midOf, putMid}
+use Rattle.octets.specs.Octets.{over, put}
+use Rattle.octets.proofs.Laws.{put-fits, copy-part}
+use Rattle.case_line.specs.Line.{taken}
 use borrow.Author.Needs.{needs}
 use Rattle.case.proofs.answer.Statement.{statement}
 use Rattle.case.proofs.answer.Tie as tie
 
-sub-if1 : tie.Need-sub-if1
-sub-if1 c = search needs
-
-slice-reshare-prefix-write-all : tie.Need-slice-reshare-prefix-write-all
-slice-reshare-prefix-write-all c = search needs
-
-slice-aggregate-write-all : tie.Need-slice-aggregate-write-all
-slice-aggregate-write-all c = sym (length-take-le _ _ (omega arith))
-
-write-all-requires : tie.Need-write-all-requires
-write-all-requires c κs = search needs
-
-answer-line-requires : tie.Need-answer-line-requires
-answer-line-requires c κs = search needs
-
-same-length : tie.Need-same-length
-same-length c = search needs
-
-returns : tie.Need-returns
-returns c = search needs
+all-put : (d bs last : List ℕ) (at n : ℕ) → at + 8218 ≤ length d → length bs ≤ 8218
+    → n ≡ taken (length bs) (length (midOf at (length d - at) d))
+    → last ≡ put (midOf at (length d - at) d) 0 bs
+    → (at + n ≡ at + length bs) × ((putMid at (length d - at) d last ≡ put d at bs) × (at + n ≤ length d))
+unfolding over
+all-put d bs last at n h l e q =
+    let part = midOf at (length d - at) d in
+    let long : length part ≡ length d - at = length-take-le (length d - at) (drop at d) (omega (arith, length-drop at d)) in
+    let fits : length bs ≤ length part = omega arith in
+    let all : n ≡ length bs = rw (le-leb (length bs) (length part) fits) at e in
+    let start = q ∙ put-fits part 0 bs (omega arith) ∙ ap₂ (λ (u v : List ℕ). u ++ v) (sym (take-length bs)) (ap (λ (k : ℕ). drop k part) (zero-add (length bs))) in
+    (ap (λ (k : ℕ). at + k) all, (copy-part d at bs last (omega arith) start, omega arith))
 
 sub-answer-line : tie.Need-sub-answer-line
 sub-answer-line c = search needs
@@ -36,33 +37,28 @@ part-answer-line-start c = search needs
 part-answer-line-end : tie.Need-part-answer-line-end
 part-answer-line-end c = search needs
 
-answer-line-requires-2 : tie.Need-answer-line-requires-2
-answer-line-requires-2 c κs = search needs
+answer-line-requires : tie.Need-answer-line-requires
+answer-line-requires c κs = search needs
 
-add-t8 : tie.Need-add-t8
-add-t8 c = search needs
+add-result : tie.Need-add-result
+add-result c = search needs
 
-same-length-2 : tie.Need-same-length-2
-same-length-2 c = search needs
+same-length : tie.Need-same-length
+same-length c = search needs
 
-returns-2 : tie.Need-returns-2
-returns-2 c = search needs
+returns : tie.Need-returns
+returns c =
+    let a = c .before .before in
+    all-put _ _ _ _ _ (a .before .before .before .before .pre) (a .answer-line .ensures .1 .1 .1) (a .answer-line .ensures .0) (a .answer-line .ensures .1 .0)
 
 pub answer-spec : {M : Type 1} → statement M
 answer-spec =
     tie.close
     (tie.spec
-    sub-if1
-    slice-reshare-prefix-write-all
-    slice-aggregate-write-all
-    write-all-requires
-    answer-line-requires
-    same-length
-    returns
     sub-answer-line
     part-answer-line-start
     part-answer-line-end
-    answer-line-requires-2
-    add-t8
-    same-length-2
-    returns-2)
+    answer-line-requires
+    add-result
+    same-length
+    returns)

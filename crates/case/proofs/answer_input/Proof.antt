@@ -7,7 +7,7 @@ use Rattle.case.proofs.answer_input.Statement.{statement}
 use Rattle.case.proofs.answer_input.Tie as tie
 
 abbrev Inv-loop : tie.InvT-loop
-Inv-loop input₀ output₀ kept₀ turns₀ input output kept turns = (kept ≤ 8195) × (length input ≡ length input₀) × (length input₀ ≡ 65536) × (length output ≡ length output₀)
+Inv-loop input₀ output₀ kept₀ turns₀ input output kept turns = (kept ≤ 8195) × (length input ≡ length input₀) × (length input₀ ≡ 65536) × (length output ≡ length output₀) × (length output₀ ≡ 65536)
 
 abbrev μ-loop : tie.MeasureT-loop
 μ-loop input₀ output₀ kept₀ turns₀ input output kept turns = turns

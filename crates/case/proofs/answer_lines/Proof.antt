@@ -9,7 +9,7 @@ use Rattle.case.proofs.answer_lines.Statement.{statement}
 use Rattle.case.proofs.answer_lines.Tie as tie
 
 abbrev Inv-loop : tie.InvT-loop
-Inv-loop input searched output₀ n start₀ done₀ at₀ output start done at = (n ≡ length input) × (start ≤ at) × (at ≤ n) × (done ≤ length output) × (length output ≡ length output₀)
+Inv-loop input searched output₀ n start₀ done₀ at₀ output start done at = (n ≡ length input) × (start ≤ at) × (at ≤ n) × (done ≤ length output) × (length output ≡ length output₀) × (8218 ≤ length output₀)
 
 abbrev μ-loop : tie.MeasureT-loop
 μ-loop input searched output₀ n start₀ done₀ at₀ output start done at = n - start
@@ -19,6 +19,15 @@ find-requires c κs = search needs
 
 loop-holds : tie.Need-loop-holds Inv-loop μ-loop
 loop-holds c = search needs
+
+make-room-requires : tie.Need-make-room-requires Inv-loop μ-loop
+make-room-requires c κs = search needs
+
+same-length : tie.Need-same-length Inv-loop μ-loop
+same-length c = search needs
+
+returns : tie.Need-returns Inv-loop μ-loop
+returns c = search needs
 
 sub-answer : tie.Need-sub-answer Inv-loop μ-loop
 sub-answer c = search needs
@@ -31,12 +40,6 @@ part-answer-end c = search needs
 
 answer-requires : tie.Need-answer-requires Inv-loop μ-loop
 answer-requires c κs = search needs
-
-same-length : tie.Need-same-length Inv-loop μ-loop
-same-length c = search needs
-
-returns : tie.Need-returns Inv-loop μ-loop
-returns c = search needs
 
 add-start : tie.Need-add-start Inv-loop μ-loop
 add-start c = search needs
@@ -73,12 +76,13 @@ answer-lines-spec =
     μ-loop
     find-requires
     loop-holds
+    make-room-requires
+    same-length
+    returns
     sub-answer
     part-answer-start
     part-answer-end
     answer-requires
-    same-length
-    returns
     add-start
     find-requires-2
     loop-less

@@ -21,20 +21,20 @@ returns c = search needs
 array-share-prefix-input : tie.Need-array-share-prefix-input
 array-share-prefix-input c = search needs
 
-slice-aggregate-answer-line : tie.Need-slice-aggregate-answer-line
-slice-aggregate-answer-line c = sym (length-take-le _ _ (omega (arith, c .before .before .before .before .answer-input .kept .0)))
+slice-aggregate-answer : tie.Need-slice-aggregate-answer
+slice-aggregate-answer c = sym (length-take-le _ _ (omega (arith, c .before .before .before .before .answer-input .kept .0)))
 
-slice-aggregate-answer-line-2 : tie.Need-slice-aggregate-answer-line-2
-slice-aggregate-answer-line-2 c = search needs
+slice-aggregate-answer-2 : tie.Need-slice-aggregate-answer-2
+slice-aggregate-answer-2 c = search needs
 
-answer-line-requires : tie.Need-answer-line-requires
-answer-line-requires c κs = search needs
+answer-requires : tie.Need-answer-requires
+answer-requires c κs = search needs
 
 array-share-prefix-output : tie.Need-array-share-prefix-output
 array-share-prefix-output c = search needs
 
 slice-aggregate-write-all : tie.Need-slice-aggregate-write-all
-slice-aggregate-write-all c = sym (length-take-le _ _ (omega (arith, c .before .before .answer-line .kept .1 .0)))
+slice-aggregate-write-all c = sym (length-take-le _ _ (omega (arith, c .before .before .answer .kept .1 .0)))
 
 write-all-requires : tie.Need-write-all-requires
 write-all-requires c κs = search needs
@@ -51,9 +51,9 @@ main-spec =
     answer-input-requires
     returns
     array-share-prefix-input
-    slice-aggregate-answer-line
-    slice-aggregate-answer-line-2
-    answer-line-requires
+    slice-aggregate-answer
+    slice-aggregate-answer-2
+    answer-requires
     array-share-prefix-output
     slice-aggregate-write-all
     write-all-requires
