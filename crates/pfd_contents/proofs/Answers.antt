@@ -1,20 +1,18 @@
 -- The five answers of the writer, and the output with each. No contract cites this file.
-use Prim.Native.Nat.{ℕ, _+_, _≤_, _<_}
-use mathlib.Core.Path.{_≡_, ap, sym, refl, _∙_}
+use Prim.Native.Nat.{ℕ, _≤_, _<_}
+use mathlib.Core.Path.{_≡_, ap, sym, _∙_}
 use mathlib.Core.List.{List}
-use mathlib.Core.Bool.{Bool, true, false}
-use mathlib.Core.Option.{Option, none, some}
-use borrow.Author.Tests.{le-leb, lt-leb, eq-eqb, ne-eqb}
-use lib.Dec.{leb, eqb}
-use lib.ListN.{length, getD}
+use mathlib.Core.Option.{none}
+use borrow.Author.Tests.{le-leb, lt-leb, ne-eqb}
+use lib.ListN.{length}
 use Rattle.answer.specs.declared.Answer.the-variants.{Done, TooLong, BadText, TooWide, NoRoom}
 use Rattle.answer.specs.declared.Written.{Written}
 use Rattle.octets.specs.Octets.{put, Bytes}
 use Rattle.octets.proofs.Laws.{put-not}
 use native.Mathlib.Omega.{arith}
-use Rattle.kind.specs.Write.{_then_, lent, wide, answered, stored}
-use Rattle.pfd_contents.specs.PfdContents.{meaning, wire, tested, refusal}
-use Rattle.pfd_contents.specs.Steps.{form, asRefusal}
+use Rattle.kind.specs.Write.{_then_, wide, answered, stored}
+use Rattle.pfd_contents.specs.PfdContents.{refusal, wire, meaning, tested}
+use Rattle.pfd_contents.specs.Steps.{asRefusal, form}
 use Rattle.pfd_contents.specs.declared.PfdContents.{PfdContents}
 use Rattle.pfd_contents.proofs.Meant.{formed}
 

@@ -1,102 +1,25 @@
 -- The cases of adding an entry and of a build. No contract cites this file.
-use Prim.Native.Nat.{ℕ, zero, suc, _+_, _-_, _*_, _≤_, _<_}
+use Prim.Native.Nat.{ℕ, _≤_, _<_}
 use native.Mathlib.Omega.{arith}
 use mathlib.Core.Path.{_≡_, ap, sym, refl, _∙_}
 use mathlib.Core.List.{List, [], _∷_}
-use mathlib.Core.Bool.{Bool, true, false, not, _||_, _&&_, false≢true}
-use mathlib.Core.Option.{Option, none, some}
-use borrow.Author.Tests.{le-leb, lt-leb, eq-eqb, ne-eqb, eqb-true, not-true, not-false}
-use lib.Dec.{leb, eqb}
+use mathlib.Core.Bool.{Bool, true, false, not}
+use borrow.Author.Tests.{le-leb, lt-leb, eq-eqb, ne-eqb}
 use lib.ListN.{length}
 use Rattle.answer.specs.declared.Answer.the-variants.{Done, TooLong, BadText, Unbuilt}
-use Rattle.octets.specs.Octets.{pick, under, flagByte}
-use Rattle.kind.specs.Write.{_then_, lent}
-use Rattle.pfd_contents.specs.PfdContents.{fieldAt, onField, entries, onEntries, runOf, pfdOf, isEmpty, isList, bad, tested}
+use Rattle.octets.specs.Octets.{under, flagByte}
+use Rattle.kind.specs.Write.{_then_}
+use Rattle.text_fields.specs.Fields.{list, isEmpty}
+use Rattle.pfd_contents.specs.PfdContents.{pfdOf, tested}
 use Rattle.pfd_contents.specs.Steps.{asRefusal}
-use Rattle.pfd_contents.specs.Builder.{entryEnd, addRefusal, withEntry, keptList, addedBy, added, addedTo, fresh, present, any, recordOf, buildRefusal, unbuilt, builtBy, built}
-use Rattle.pfd_contents.specs.declared.TextList.{TextList}
+use Rattle.pfd_contents.specs.Builder.{addedTo, recordOf, fresh, built, any, unbuilt, buildRefusal, builtBy, present}
+use Rattle.text_fields.specs.declared.TextList.{TextList}
 use Rattle.pfd_contents.specs.declared.PfdContents.{PfdContents}
 use Rattle.pfd_contents.specs.declared.build.PfdContentsBuilder.{PfdContentsBuilder}
 use Rattle.pfd_contents.specs.declared.build.PfdContentsBuilt.{PfdContentsBuilt}
-use Rattle.pfd_contents.specs.declared.build.ListAdded.{ListAdded}
-use Rattle.pfd_contents.specs.declared.fields.Fault.{Fault}
-use Rattle.pfd_contents.specs.declared.fields.Field.{Field}
-use Rattle.pfd_contents.specs.declared.fields.Field.the-variants.{Absent, Whole, Faulty}
-use Rattle.pfd_contents.specs.declared.fields.Entries.{Entries}
-use Rattle.pfd_contents.specs.declared.fields.Entries.the-variants.{Run, Broken}
-use Rattle.pfd_contents.proofs.Runs.{whole-end, bounded}
-use Rattle.pfd_contents.proofs.Meant.{both-true}
-
--- ---- the entry
-
-module _ (t : List ℕ) (at : ℕ) where
-  pub entry-is : (f g : Field) → f ≡ fieldAt t at → f ≡ g → onField g 0 (λ p n. p + n) (λ fault. 0) ≡ entryEnd t at
-  unfolding entryEnd
-  entry-is f g e k = rw (← e, k)
-
-  -- an entry that is there ends behind its place
-  pub entry-behind : (end : ℕ) → end ≡ entryEnd t at → (end ≡ 0 → ⊥) → at + 2 ≤ end
-  unfolding entryEnd
-  entry-behind end e h = go (fieldAt t at) refl e
-    where
-      go : (f : Field) → fieldAt t at ≡ f → end ≡ onField f 0 (λ p n. p + n) (λ fault. 0) → at + 2 ≤ end
-      go Absent q e = absurd (h e)
-      go (Whole p n) q e = let w = whole-end t at (sym q) refl in omega arith
-      go (Faulty x) q e = absurd (h e)
-
--- a list that can be has no more entries than its slice has bytes
-pub few : (t : List ℕ) (x : TextList) (g b : Bool) → g ≡ isList t x → not g ≡ false → b ≡ isEmpty x → b ≡ false → x .count ≤ length t
-unfolding isList
-few t x g b e h d k = go (entries (x .count) t (x .place) 0) refl (rw (← d, k) at (sym e ∙ not-false g h))
-  where
-    go : (r : Entries) → entries (x .count) t (x .place) 0 ≡ r → onEntries r (λ count next. eqb count (x .count) && eqb (next - x .place) (x .len)) (λ fault. false) ≡ true → x .count ≤ length t
-    go (Run n next) q h =
-        let a : n ≡ x .count = eqb-true _ _ (both-true _ _ h .0) in
-        by n (bounded t (x .count) (x .place) 0 q .1) a
-      where
-        by : (n : ℕ) → (0 < n → x .place + 2 * (n - 0) ≤ length t) → n ≡ x .count → x .count ≤ length t
-        by zero k a = omega arith
-        by (suc n) k a = omega (arith, k (omega arith))
-    go (Broken f) q h = absurd (false≢true h)
+use Rattle.text_fields.specs.declared.add.ListAdded.{ListAdded}
 
 -- ---- adding
-
-module _ (t : List ℕ) (l : TextList) (number at : ℕ) where
-  pub add-long : (r : ListAdded) → 65535 < length t → r ≡ keptList (TooLong (length t)) l → r ≡ added number t l at
-  unfolding added addRefusal addedBy _then_
-  add-long r h q = rw (lt-leb _ _ h) q
-
-  module _ (f : length t ≤ 65535) (g : Bool) (e : g ≡ isList t l) where
-    pub add-bad : (r : ListAdded) → not g ≡ true → r ≡ keptList (BadText number) l → r ≡ added number t l at
-    unfolding added addRefusal addedBy _then_
-    add-bad r h q = rw (le-leb _ _ f, ← e, not-true g h) q
-
-    module _ (h : not g ≡ false) (end : ℕ) (d : end ≡ entryEnd t at) where
-      pub add-none : (r : ListAdded) → end ≡ 0 → r ≡ keptList (BadText number) l → r ≡ added number t l at
-      unfolding added addRefusal addedBy _then_
-      add-none r z q = rw (le-leb _ _ f, ← e, not-false g h, ← d, eq-eqb end 0 z) q
-
-      module _ (n : end ≡ 0 → ⊥) (b : Bool) (c : b ≡ isEmpty l) where
-        pub add-first : b ≡ true → record { answer = Done; list = runOf at end 1 } ≡ added number t l at
-        unfolding added addRefusal addedBy _then_
-        add-first k = rw (le-leb _ _ f, ← e, not-false g h, ← d, ne-eqb end 0 n, ← c, k)
-
-        module _ (k : b ≡ false) where
-          apart : (r : ListAdded) → (l .place + l .len ≡ at → ⊥) → r ≡ keptList (BadText number) l → r ≡ added number t l at
-          unfolding added addRefusal addedBy _then_
-          apart r a q = rw (le-leb _ _ f, ← e, not-false g h, ← d, ne-eqb end 0 n, ← c, k, ne-eqb _ _ a) q
-
-          pub add-before : (r : ListAdded) → at < l .place → r ≡ keptList (BadText number) l → r ≡ added number t l at
-          add-before r a q = apart r (λ z. omega arith) q
-
-          pub add-apart : (r : ListAdded) → l .place ≤ at → (at - l .place ≡ l .len → ⊥) → r ≡ keptList (BadText number) l → r ≡ added number t l at
-          add-apart r p a q = apart r (λ z. a (omega arith)) q
-
-          pub add-behind : l .place ≤ at → at - l .place ≡ l .len → record { answer = Done; list = runOf (l .place) end (l .count + 1) } ≡ added number t l at
-          unfolding added addRefusal addedBy _then_
-          add-behind p a =
-              let z : l .place + l .len ≡ at = omega arith in
-              rw (le-leb _ _ f, ← e, not-false g h, ← d, ne-eqb end 0 n, ← c, k, eq-eqb _ _ z)
 
 -- an adding call is that of its list
 pub add-to : (set : TextList → PfdContentsBuilder) (a step : ListAdded) (b : PfdContentsBuilder) → step ≡ a → b ≡ set (step .list) → record { answer = step .answer; builder = b } ≡ addedTo set a

@@ -1,74 +1,28 @@
 -- The row of eight steps comes to `readFields`: one law for a text, one for a list, and the row. No contract cites this file.
-use Prim.Native.Nat.{ℕ, _+_, _-_, _≤_, _<_}
+use Prim.Native.Nat.{ℕ, _≤_, _<_}
 use mathlib.Core.Path.{_≡_, ap, sym, refl, _∙_}
 use mathlib.Core.List.{List}
-use mathlib.Core.Bool.{Bool, true, false, not, _||_}
-use borrow.Author.Tests.{le-leb, lt-leb, not-true, not-false}
+use mathlib.Core.Bool.{Bool, false, _||_}
+use borrow.Author.Tests.{le-leb, lt-leb}
 use lib.ListN.{length, getD}
-use Rattle.octets.specs.Octets.{pick, bit}
+use Rattle.octets.specs.Octets.{bit}
 use Rattle.answer.specs.declared.Answer.{Answer}
-use Rattle.answer.specs.declared.Answer.the-variants.{Done, Short, TooLong}
-use Rattle.pfd_contents.specs.PfdContents.{fieldAt, entries, noText, textOf, noList, runOf, pfdOf, onField, onEntries, answerOf, refused, accepted, Step, took, broke, _into_, text, list, readFields, read}
-use Rattle.pfd_contents.specs.Steps.{textTo, listTo, textStep, listStep, finished}
-use Rattle.pfd_contents.specs.declared.MaybeText.{MaybeText}
-use Rattle.pfd_contents.specs.declared.TextList.{TextList}
+use Rattle.answer.specs.declared.Answer.the-variants.{Short, TooLong}
+use Rattle.text_fields.specs.Fields.{text, Step, took, broke, list}
+use Rattle.text_fields.specs.Steps.{textStep, textTo, listStep, listTo}
+use Rattle.pfd_contents.specs.PfdContents.{accepted, answerOf, refused, _into_, read, pfdOf, readFields}
+use Rattle.pfd_contents.specs.Steps.{finished}
+use Rattle.text_fields.specs.declared.MaybeText.{MaybeText}
+use Rattle.text_fields.specs.declared.TextList.{TextList}
 use Rattle.pfd_contents.specs.declared.PfdContents.{PfdContents}
 use Rattle.pfd_contents.specs.declared.read.PfdContentsRead.{PfdContentsRead}
-use Rattle.pfd_contents.specs.declared.fields.Fault.{Fault}
-use Rattle.pfd_contents.specs.declared.fields.Field.{Field}
-use Rattle.pfd_contents.specs.declared.fields.Field.the-variants.{Absent, Whole, Faulty}
-use Rattle.pfd_contents.specs.declared.fields.Entries.{Entries}
-use Rattle.pfd_contents.specs.declared.fields.Entries.the-variants.{Run, Broken}
-use Rattle.pfd_contents.specs.declared.read.Walk.{Walk}
-use Rattle.pfd_contents.specs.declared.read.Walk.the-variants.{At, Stopped}
-use Rattle.pfd_contents.specs.declared.read.TextStep.{TextStep}
-use Rattle.pfd_contents.specs.declared.read.ListStep.{ListStep}
+use Rattle.text_fields.specs.declared.Fault.{Fault}
+use Rattle.text_fields.specs.declared.Walk.{Walk}
+use Rattle.text_fields.specs.declared.Walk.the-variants.{At, Stopped}
+use Rattle.text_fields.specs.declared.TextStep.{TextStep}
+use Rattle.text_fields.specs.declared.ListStep.{ListStep}
 
--- ---- one step, by what the code found
-
-module _ (s : List ℕ) (at : ℕ) where
-  pub text-is : (f g : Field) → f ≡ fieldAt s at → f ≡ g → textTo (onField g (took noText at) (λ p n. took (textOf p n) (p + n)) broke) ≡ textTo (text s true at)
-  unfolding text
-  text-is f g e k = rw (← e, k)
-
-  pub list-is : (later : Bool) (most : ℕ) (f g : Entries) → most ≡ pick later 1 (length s) → f ≡ entries most s at 0 → f ≡ g
-      → listTo (onEntries g (λ count next. took (runOf at next count) next) broke) ≡ listTo (list s true later at)
-  unfolding list
-  list-is later most f g m e k = rw (← m, ← e, k)
-
-module _ (s : List ℕ) (w : Walk) (b on : Bool) (e : on ≡ b) where
-  pub text-off : not on ≡ true → record { walk = w; text = noText } ≡ textStep s w b
-  unfolding textStep text
-  text-off h = rw (← e, not-true on h) (go w)
-    where
-      go : (w : Walk) → record { walk = w; text = noText } ≡ textStep s w false
-      go (At at) = refl
-      go (Stopped fault) = refl
-
-  pub text-on : (at : ℕ) (r : TextStep) → not on ≡ false → w ≡ At at → r ≡ textTo (text s true at) → r ≡ textStep s w b
-  unfolding textStep
-  text-on at r h k q = rw (← e, not-false on h, k) q
-
-  pub text-after : (fault : Fault) → w ≡ Stopped fault → record { walk = Stopped fault; text = noText } ≡ textStep s w b
-  unfolding textStep
-  text-after fault k = rw k
-
-  module _ (later : Bool) where
-    pub list-off : not on ≡ true → record { walk = w; list = noList } ≡ listStep s w b later
-    unfolding listStep list
-    list-off h = rw (← e, not-true on h) (go w)
-      where
-        go : (w : Walk) → record { walk = w; list = noList } ≡ listStep s w false later
-        go (At at) = refl
-        go (Stopped fault) = refl
-
-    pub list-on : (at : ℕ) (r : ListStep) → not on ≡ false → w ≡ At at → r ≡ listTo (list s true later at) → r ≡ listStep s w b later
-    unfolding listStep
-    list-on at r h k q = rw (← e, not-false on h, k) q
-
-    pub list-after : (fault : Fault) → w ≡ Stopped fault → record { walk = Stopped fault; list = noList } ≡ listStep s w b later
-    unfolding listStep
-    list-after fault k = rw k
+-- ---- the end of a walk
 
 pub finish-at : (w : Walk) (r : PfdContents) (at : ℕ) → w ≡ At at → accepted at r ≡ finished w r
 unfolding finished

@@ -1,8 +1,6 @@
-pub mod Runs
 pub mod Chain
 pub mod Written
 pub mod Meant
 pub mod Answers
-pub mod Carry
 pub mod Building
 pub mod OfKind

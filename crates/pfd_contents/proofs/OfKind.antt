@@ -1,48 +1,41 @@
 -- PFD Contents is a kind. No contract cites this file.
-use Prim.Native.Nat.{ℕ, zero, suc, _+_, _-_, _%_, _≤_, _<_}
+use Prim.Native.Nat.{ℕ, zero, suc, _+_, _-_, _%_, _≤_}
 use native.Mathlib.Omega.{arith}
 use mathlib.Core.Path.{_≡_, refl, sym, ap, ap₂, _∙_}
 use mathlib.Core.Bool.{Bool, true, false, _||_}
 use mathlib.Core.List.{List, [], _∷_, _++_}
 use mathlib.Core.Option.{none}
 use lib.Dec.{leb}
-use lib.ListN.{length, getD, take, drop}
+use lib.ListN.{length, getD, take}
 use lib.Seq.{length-take-le, take-all}
 use borrow.Author.Tests.{le-leb, leb-true}
-use Rattle.answer.specs.declared.Answer.{Answer}
 use Rattle.answer.specs.declared.Answer.the-variants.{Done, Short, TooLong}
-use Rattle.octets.specs.Octets.{pick, bit, Bytes, field, put}
+use Rattle.octets.specs.Octets.{pick, bit, Bytes, field}
 use Rattle.octets.proofs.Laws.{bytes-take}
 use Rattle.kind.specs.Kind.{Reads, Kind}
 use Rattle.kind.specs.Layout.{clear}
-use Rattle.kind.specs.Write.{_then_, lent, wide}
 use Rattle.kind.proofs.Laws.{length-clear, bytes-clear, clear-clear, Alike, alike-field}
 use Rattle.kind.specs.Demand3.{Demand3}
 use Rattle.kind.proofs.Demand3.{demand3}
-use Rattle.pfd_contents.specs.PfdContents.{Value, meaning, textMeaning, listMeaning, textWire, listWire, wire, pfdOf, refused, accepted, Step, took, broke, _into_, text, list, readFields, read, reader, tested, refusal, isMaybe, isList}
-use Rattle.pfd_contents.specs.declared.MaybeText.{MaybeText}
-use Rattle.pfd_contents.specs.declared.TextList.{TextList}
+use Rattle.kind.specs.Write.{_then_}
+use Rattle.text_fields.specs.Fields.{Step, took, broke, text, list, isMaybe, isList, textMeaning, listMeaning}
+use Rattle.pfd_contents.specs.PfdContents.{_into_, refused, readFields, read, accepted, pfdOf, wire, meaning, tested, Value, reader, refusal}
+use Rattle.text_fields.specs.declared.MaybeText.{MaybeText}
+use Rattle.text_fields.specs.declared.TextList.{TextList}
 use Rattle.pfd_contents.specs.declared.PfdContents.{PfdContents}
 use Rattle.pfd_contents.specs.declared.read.PfdContentsRead.{PfdContentsRead}
-use Rattle.pfd_contents.specs.declared.fields.Fault.{Fault}
-use Rattle.pfd_contents.specs.declared.fields.Fault.the-variants.{Past, Garbled}
-use Rattle.pfd_contents.proofs.Meant.{join}
-use Rattle.pfd_contents.proofs.Carry.{Cut, Kept, text-kept, list-kept}
+use Rattle.text_fields.specs.declared.Fault.the-variants.{Past, Garbled}
+use Rattle.text_fields.proofs.Meant.{join}
+use Rattle.text_fields.proofs.Carry.{Cut, text-kept, list-kept}
 
 -- ---- what an accepted payload has
 
 -- a step that didn't end the reading took something
-record Took {A : Type 0} (x : Step A) (rest : A → ℕ → PfdContentsRead) : Type 0 where
-  got : A
-  next : ℕ
-  is : x ≡ took got next
-  done : rest got next .answer ≡ Done
-
-tookOne : {A : Type 0} (x : Step A) (rest : A → ℕ → PfdContentsRead) → (x into rest) .answer ≡ Done → Took x rest
+taking : {A B : Type 0} (x : Step A) (rest : A → ℕ → PfdContentsRead) → (x into rest) .answer ≡ Done → ((got : A) (next : ℕ) → x ≡ took got next → rest got next .answer ≡ Done → B) → B
 unfolding refused
-tookOne (took x at) rest h = record { got = x; next = at; is = refl; done = h }
-tookOne (broke (Past e l)) rest h = let z : _≡_ {A = ℕ} 0 1 = cc in absurd (omega arith)
-tookOne (broke (Garbled p)) rest h = let z : _≡_ {A = ℕ} 0 1 = cc in absurd (omega arith)
+taking (took x at) rest h then-so = then-so x at refl h
+taking (broke (Past e l)) rest h then-so = let z : _≡_ {A = ℕ} 0 1 = cc in absurd (omega arith)
+taking (broke (Garbled p)) rest h then-so = let z : _≡_ {A = ℕ} 0 1 = cc in absurd (omega arith)
 
 -- eight steps that took something are a reading that is done
 replay : (s : List ℕ) (f : ℕ) {x₁ x₂ x₃ x₄ x₅ : MaybeText} {x₆ x₇ x₈ : TextList} {n₁ n₂ n₃ n₄ n₅ n₆ n₇ n₈ : ℕ}
@@ -115,58 +108,59 @@ all-same : (s t : List ℕ) (r : PfdContents)
 unfolding meaning
 all-same s t r e₁ e₂ e₃ e₄ e₅ e₆ e₇ e₈ = rw (e₁, e₂, e₃, e₄, e₅, e₆, e₇, e₈)
 
-done-at : (s : List ℕ) (f : ℕ) → Bytes s → 2 ≤ length s → readFields s f .answer ≡ Done → Ended s f
-unfolding readFields wire meaning
-done-at s f b two h =
-    let i₁ = tookOne (text s (bit 0 f) 2) _ h in
-    let i₂ = tookOne (text s (bit 1 f) (i₁ .next)) _ (i₁ .done) in
-    let i₃ = tookOne (text s (bit 2 f) (i₂ .next)) _ (i₂ .done) in
-    let i₄ = tookOne (text s (bit 3 f) (i₃ .next)) _ (i₃ .done) in
-    let i₅ = tookOne (text s (bit 4 f) (i₄ .next)) _ (i₄ .done) in
-    let i₆ = tookOne (list s (bit 5 f) (bit 6 f || bit 7 f) (i₅ .next)) _ (i₅ .done) in
-    let i₇ = tookOne (list s (bit 6 f) (bit 7 f) (i₆ .next)) _ (i₆ .done) in
-    let i₈ = tookOne (list s (bit 7 f) false (i₇ .next)) _ (i₇ .done) in
-    let k₁ = text-kept s b 2 (same-place 2) two (bit 0 f) (i₁ .got) (i₁ .next) (i₁ .is) in
-    let k₂ = text-kept s b (i₁ .next) (k₁ .onward) (k₁ .within) (bit 1 f) (i₂ .got) (i₂ .next) (i₂ .is) in
-    let o₂ : 2 ≤ i₂ .next = upto (k₁ .onward) (k₂ .onward) in
-    let k₃ = text-kept s b (i₂ .next) o₂ (k₂ .within) (bit 2 f) (i₃ .got) (i₃ .next) (i₃ .is) in
-    let o₃ : 2 ≤ i₃ .next = upto o₂ (k₃ .onward) in
-    let k₄ = text-kept s b (i₃ .next) o₃ (k₃ .within) (bit 3 f) (i₄ .got) (i₄ .next) (i₄ .is) in
-    let o₄ : 2 ≤ i₄ .next = upto o₃ (k₄ .onward) in
-    let k₅ = text-kept s b (i₄ .next) o₄ (k₄ .within) (bit 4 f) (i₅ .got) (i₅ .next) (i₅ .is) in
-    let o₅ : 2 ≤ i₅ .next = upto o₄ (k₅ .onward) in
-    let k₆ = list-kept s b (i₅ .next) o₅ (k₅ .within) (bit 5 f) (bit 6 f || bit 7 f) (i₆ .got) (i₆ .next) (i₆ .is) in
-    let o₆ : 2 ≤ i₆ .next = upto o₅ (k₆ .onward) in
-    let k₇ = list-kept s b (i₆ .next) o₆ (k₆ .within) (bit 6 f) (bit 7 f) (i₇ .got) (i₇ .next) (i₇ .is) in
-    let o₇ : 2 ≤ i₇ .next = upto o₆ (k₇ .onward) in
-    let k₈ = list-kept s b (i₇ .next) o₇ (k₇ .within) (bit 7 f) false (i₈ .got) (i₈ .next) (i₈ .is) in
-    let o₈ : 2 ≤ i₈ .next = upto o₇ (k₈ .onward) in
-    let e = replay s f (i₁ .is) (i₂ .is) (i₃ .is) (i₄ .is) (i₅ .is) (i₆ .is) (i₇ .is) (i₈ .is) in
-    let w₁ = part s f 2 (i₁ .next) {xs = f ∷ 0 ∷ []} (same-place 2, refl) (k₁ .onward) (k₁ .writes) in
-    let w₂ = part s f (i₁ .next) (i₂ .next) w₁ (k₂ .onward) (k₂ .writes) in
-    let w₃ = part s f (i₂ .next) (i₃ .next) w₂ (k₃ .onward) (k₃ .writes) in
-    let w₄ = part s f (i₃ .next) (i₄ .next) w₃ (k₄ .onward) (k₄ .writes) in
-    let w₅ = part s f (i₄ .next) (i₅ .next) w₄ (k₅ .onward) (k₅ .writes) in
-    let w₆ = part s f (i₅ .next) (i₆ .next) w₅ (k₆ .onward) (k₆ .writes) in
-    let w₇ = part s f (i₆ .next) (i₇ .next) w₆ (k₇ .onward) (k₇ .writes) in
-    let w₈ = part s f (i₇ .next) (i₈ .next) w₇ (k₈ .onward) (k₈ .writes) in
-    let x = pfdOf f (i₁ .got) (i₂ .got) (i₃ .got) (i₄ .got) (i₅ .got) (i₆ .got) (i₇ .got) (i₈ .got) in
+ended : (s : List ℕ) (f : ℕ) → Bytes s → 2 ≤ length s → {x₁ x₂ x₃ x₄ x₅ : MaybeText} {x₆ x₇ x₈ : TextList} {n₁ n₂ n₃ n₄ n₅ n₆ n₇ n₈ : ℕ}
+    → text s (bit 0 f) 2 ≡ took x₁ n₁
+    → text s (bit 1 f) n₁ ≡ took x₂ n₂
+    → text s (bit 2 f) n₂ ≡ took x₃ n₃
+    → text s (bit 3 f) n₃ ≡ took x₄ n₄
+    → text s (bit 4 f) n₄ ≡ took x₅ n₅
+    → list s (bit 5 f) (bit 6 f || bit 7 f) n₅ ≡ took x₆ n₆
+    → list s (bit 6 f) (bit 7 f) n₆ ≡ took x₇ n₇
+    → list s (bit 7 f) false n₇ ≡ took x₈ n₈
+    → Ended s f
+unfolding wire meaning
+ended s f b two {x₁} {x₂} {x₃} {x₄} {x₅} {x₆} {x₇} {x₈} {n₁} {n₂} {n₃} {n₄} {n₅} {n₆} {n₇} {n₈} e₁ e₂ e₃ e₄ e₅ e₆ e₇ e₈ =
+    let k₁ = text-kept s b 2 (same-place 2) two (bit 0 f) x₁ n₁ e₁ in
+    let o₁ : 2 ≤ n₁ = k₁ .onward in
+    let k₂ = text-kept s b n₁ o₁ (k₁ .within) (bit 1 f) x₂ n₂ e₂ in
+    let o₂ : 2 ≤ n₂ = upto o₁ (k₂ .onward) in
+    let k₃ = text-kept s b n₂ o₂ (k₂ .within) (bit 2 f) x₃ n₃ e₃ in
+    let o₃ : 2 ≤ n₃ = upto o₂ (k₃ .onward) in
+    let k₄ = text-kept s b n₃ o₃ (k₃ .within) (bit 3 f) x₄ n₄ e₄ in
+    let o₄ : 2 ≤ n₄ = upto o₃ (k₄ .onward) in
+    let k₅ = text-kept s b n₄ o₄ (k₄ .within) (bit 4 f) x₅ n₅ e₅ in
+    let o₅ : 2 ≤ n₅ = upto o₄ (k₅ .onward) in
+    let k₆ = list-kept s b n₅ o₅ (k₅ .within) (bit 5 f) (bit 6 f || bit 7 f) x₆ n₆ e₆ in
+    let o₆ : 2 ≤ n₆ = upto o₅ (k₆ .onward) in
+    let k₇ = list-kept s b n₆ o₆ (k₆ .within) (bit 6 f) (bit 7 f) x₇ n₇ e₇ in
+    let o₇ : 2 ≤ n₇ = upto o₆ (k₇ .onward) in
+    let k₈ = list-kept s b n₇ o₇ (k₇ .within) (bit 7 f) false x₈ n₈ e₈ in
+    let o₈ : 2 ≤ n₈ = upto o₇ (k₈ .onward) in
+    let w₁ = part s f 2 n₁ {xs = f ∷ 0 ∷ []} (same-place 2, refl) (k₁ .onward) (k₁ .writes) in
+    let w₂ = part s f n₁ n₂ w₁ (k₂ .onward) (k₂ .writes) in
+    let w₃ = part s f n₂ n₃ w₂ (k₃ .onward) (k₃ .writes) in
+    let w₄ = part s f n₃ n₄ w₃ (k₄ .onward) (k₄ .writes) in
+    let w₅ = part s f n₄ n₅ w₄ (k₅ .onward) (k₅ .writes) in
+    let w₆ = part s f n₅ n₆ w₅ (k₆ .onward) (k₆ .writes) in
+    let w₇ = part s f n₆ n₇ w₆ (k₇ .onward) (k₇ .writes) in
+    let w₈ = part s f n₇ n₈ w₇ (k₈ .onward) (k₈ .writes) in
+    let x = pfdOf f x₁ x₂ x₃ x₄ x₅ x₆ x₇ x₈ in
     record {
-      n = i₈ .next;
+      n = n₈;
       r = x;
       from = o₈;
       within = k₈ .within;
-      reads = e;
+      reads = replay s f e₁ e₂ e₃ e₄ e₅ e₆ e₇ e₈;
       writes = w₈ .1;
       able = all-able s x (k₁ .able) (k₂ .able) (k₃ .able) (k₄ .able) (k₅ .able) (k₆ .able) (k₇ .able) (k₈ .able);
       again = λ {t} c.
-          let m₇ = k₈ .onward in
-          let m₆ = upto (k₇ .onward) m₇ in
-          let m₅ = upto (k₆ .onward) m₆ in
-          let m₄ = upto (k₅ .onward) m₅ in
-          let m₃ = upto (k₄ .onward) m₄ in
-          let m₂ = upto (k₃ .onward) m₃ in
-          let m₁ = upto (k₂ .onward) m₂ in
+          let m₇ : n₇ ≤ n₈ = k₈ .onward in
+          let m₆ : n₆ ≤ n₈ = upto (k₇ .onward) m₇ in
+          let m₅ : n₅ ≤ n₈ = upto (k₆ .onward) m₆ in
+          let m₄ : n₄ ≤ n₈ = upto (k₅ .onward) m₅ in
+          let m₃ : n₃ ≤ n₈ = upto (k₄ .onward) m₄ in
+          let m₂ : n₂ ≤ n₈ = upto (k₃ .onward) m₃ in
+          let m₁ : n₁ ≤ n₈ = upto (k₂ .onward) m₂ in
           let a₁ = k₁ .again c m₁ in
           let a₂ = k₂ .again c m₂ in
           let a₃ = k₃ .again c m₃ in
@@ -174,11 +168,24 @@ done-at s f b two h =
           let a₅ = k₅ .again c m₅ in
           let a₆ = k₆ .again c m₆ in
           let a₇ = k₇ .again c m₇ in
-          let a₈ = k₈ .again c (same-place _) in (
+          let a₈ = k₈ .again c (same-place n₈) in (
             replay t f (a₁ .0) (a₂ .0) (a₃ .0) (a₄ .0) (a₅ .0) (a₆ .0) (a₇ .0) (a₈ .0),
             all-same s t x (a₁ .1) (a₂ .1) (a₃ .1) (a₄ .1) (a₅ .1) (a₆ .1) (a₇ .1) (a₈ .1),
           );
     }
+
+done-at : (s : List ℕ) (f : ℕ) → Bytes s → 2 ≤ length s → readFields s f .answer ≡ Done → Ended s f
+unfolding readFields
+done-at s f b two h =
+    taking (text s (bit 0 f) 2) _ h (λ x₁ n₁ e₁ h₁.
+    taking (text s (bit 1 f) n₁) _ h₁ (λ x₂ n₂ e₂ h₂.
+    taking (text s (bit 2 f) n₂) _ h₂ (λ x₃ n₃ e₃ h₃.
+    taking (text s (bit 3 f) n₃) _ h₃ (λ x₄ n₄ e₄ h₄.
+    taking (text s (bit 4 f) n₄) _ h₄ (λ x₅ n₅ e₅ h₅.
+    taking (list s (bit 5 f) (bit 6 f || bit 7 f) n₅) _ h₅ (λ x₆ n₆ e₆ h₆.
+    taking (list s (bit 6 f) (bit 7 f) n₆) _ h₆ (λ x₇ n₇ e₇ h₇.
+    taking (list s (bit 7 f) false n₇) _ h₇ (λ x₈ n₈ e₈ h₈.
+    ended s f b two e₁ e₂ e₃ e₄ e₅ e₆ e₇ e₈))))))))
 
 -- what a test leaves that doesn't refuse
 tests : (s : List ℕ) → read s .answer ≡ Done → (length s ≤ 65535) × (2 ≤ length s) × (read s ≡ readFields s (getD s 0 0))

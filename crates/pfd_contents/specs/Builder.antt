@@ -1,22 +1,22 @@
 -- The builder of PFD Contents, as document 01 has it.
-use Prim.Native.Nat.{ℕ, _+_}
-use mathlib.Core.Bool.{Bool, true, false, not, _||_, _&&_}
+use Prim.Native.Nat.{ℕ}
+use mathlib.Core.Bool.{Bool, false, not, _||_}
 use mathlib.Core.List.{List, [], _∷_}
 use mathlib.Core.Option.{Option, none, some}
-use lib.Dec.{leb, eqb}
 use lib.ListN.{length}
 use Rattle.answer.specs.declared.Answer.{Answer}
-use Rattle.answer.specs.declared.Answer.the-variants.{Done, BadText, Unbuilt}
+use Rattle.answer.specs.declared.Answer.the-variants.{Done, Unbuilt}
 use Rattle.octets.specs.Octets.{pick, flagByte}
 use Rattle.kind.specs.Write.{_then_, lent}
-use Rattle.pfd_contents.specs.PfdContents.{fieldAt, onField, noText, noList, runOf, pfdOf, emptyPfd, isEmpty, isList, bad, tested}
-use Rattle.pfd_contents.specs.declared.MaybeText.{MaybeText}
-use Rattle.pfd_contents.specs.declared.TextList.{TextList}
+use Rattle.text_fields.specs.Fields.{noText, noList, list, isEmpty}
+use Rattle.pfd_contents.specs.PfdContents.{pfdOf, tested, emptyPfd}
+use Rattle.text_fields.specs.declared.MaybeText.{MaybeText}
+use Rattle.text_fields.specs.declared.TextList.{TextList}
 use Rattle.pfd_contents.specs.declared.PfdContents.{PfdContents}
 use Rattle.pfd_contents.specs.declared.build.PfdContentsBuilder.{PfdContentsBuilder}
 use Rattle.pfd_contents.specs.declared.build.PfdContentsBuilt.{PfdContentsBuilt}
 use Rattle.pfd_contents.specs.declared.build.PfdContentsAdded.{PfdContentsAdded}
-use Rattle.pfd_contents.specs.declared.build.ListAdded.{ListAdded}
+use Rattle.text_fields.specs.declared.add.ListAdded.{ListAdded}
 
 -- ---- setters
 
@@ -64,32 +64,6 @@ abbrev pub withNames : PfdContentsBuilder → TextList → PfdContentsBuilder
 withNames b x = holding (b .«flow_description») (b .url) (b .«domain_name») (b .«custom_pfd_content») (b .«domain_name_protocol») (b .«additional_flow_description») (b .«additional_url») x
 
 -- ---- adding an entry
-
--- the place behind the whole good field at a place, 0 where there is none
-unfoldable pub entryEnd : List ℕ → ℕ → ℕ
-entryEnd texts at = onField (fieldAt texts at) 0 (λ p n. p + n) (λ fault. 0)
-
--- 5, then 6: the list so far, and an entry that is there and stands directly behind the run unless the list is empty
-unfoldable pub addRefusal : ℕ → List ℕ → TextList → ℕ → Option Answer
-addRefusal number texts l at =
-    lent (length texts)
-    then bad number (isList texts l)
-    then bad number (not (eqb (entryEnd texts at) 0) && (isEmpty l || eqb (l .place + l .len) at))
-
--- the run with the entry
-abbrev pub withEntry : List ℕ → TextList → ℕ → TextList
-withEntry texts l at = pick (isEmpty l) (runOf at (entryEnd texts at) 1) (runOf (l .place) (entryEnd texts at) (l .count + 1))
-
--- refused, the list is as before
-abbrev pub keptList : Answer → TextList → ListAdded
-keptList a l = record { answer = a; list = l }
-
-unfoldable pub addedBy : Option Answer → TextList → TextList → ListAdded
-addedBy none new old = record { answer = Done; list = new }
-addedBy (some a) new old = keptList a old
-
-unfoldable pub added : ℕ → List ℕ → TextList → ℕ → ListAdded
-added number texts l at = addedBy (addRefusal number texts l at) (withEntry texts l at) l
 
 -- a builder with the list in its place
 unfoldable pub addedTo : (TextList → PfdContentsBuilder) → ListAdded → PfdContentsAdded

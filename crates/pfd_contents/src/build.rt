@@ -1,23 +1,22 @@
 // The builder, and what is built by it.
-use crate::MaybeText;
 use crate::PfdContents;
-use crate::TextList;
-use crate::fields::Field;
 use answer::Answer;
+use text_fields::MaybeText;
+use text_fields::TextList;
 ghost use mathlib.Core.Path.{_≡_};
-ghost use Rattle.pfd_contents.specs.PfdContents.{textOf};
-ghost use Rattle.pfd_contents.specs.Builder.{fresh, withFlow, withUrl, withDomain, withCustom, withProtocol, withFlows, withUrls, withNames, recordOf, unbuilt, built, entryEnd, keptList, added, addedTo};
+ghost use Rattle.text_fields.specs.Fields.{textOf, added};
+ghost use Rattle.pfd_contents.specs.Builder.{fresh, withFlow, withUrl, withDomain, withCustom, withProtocol, withFlows, withUrls, withNames, recordOf, unbuilt, built, addedTo};
 
 // The fields of a record to be. Which of them are present makes its flags.
 pub struct PfdContentsBuilder {
-    pub flow_description: MaybeText,
-    pub url: MaybeText,
-    pub domain_name: MaybeText,
-    pub custom_pfd_content: MaybeText,
-    pub domain_name_protocol: MaybeText,
-    pub additional_flow_description: TextList,
-    pub additional_url: TextList,
-    pub additional_domain_name_and_protocol: TextList,
+    flow_description: MaybeText,
+    url: MaybeText,
+    domain_name: MaybeText,
+    custom_pfd_content: MaybeText,
+    domain_name_protocol: MaybeText,
+    additional_flow_description: TextList,
+    additional_url: TextList,
+    additional_domain_name_and_protocol: TextList,
 }
 
 // What adding an entry answers; the builder is as before where it is refused.
@@ -30,73 +29,6 @@ pub struct PfdContentsAdded {
 pub struct PfdContentsBuilt {
     pub answer: Answer,
     pub record: PfdContents,
-}
-
-// The same of one list.
-pub struct ListAdded {
-    pub answer: Answer,
-    pub list: TextList,
-}
-
-fn kept_list(answer: Answer, list: TextList) -> ListAdded
-    ensures { λ r. ⌜ r ≡ keptList answer list ⌝ }
-{
-    ListAdded { answer, list }
-}
-
-// The place behind the whole good field at a place, 0 where there is none.
-fn entry_end(texts: &[u8], at: usize) -> usize
-    ensures { λ r. ⌜ r ≡ entryEnd (now (texts .entry)) at ⌝ }
-{
-    match crate::fields::field_at(texts, at) {
-        Field::Absent => 0,
-        Field::Whole { place, len } => place + len,
-        Field::Faulty(_) => 0,
-    }
-}
-
-// A list with the entry at a place; its field number goes into a refusal. The three adding calls are this one.
-fn extended(texts: &[u8], field: u8, list: TextList, at: usize) -> ListAdded
-    ensures { λ r. ⌜ r ≡ added field (now (texts .entry)) list at ⌝ }
-{
-    let n = texts.len();
-    if 65535 < n {
-        return kept_list(Answer::TooLong { length: n }, list);
-    }
-    if !crate::fields::is_list(texts, list) {
-        return kept_list(Answer::BadText { field }, list);
-    }
-    let end = entry_end(texts, at);
-    if end == 0 {
-        return kept_list(Answer::BadText { field }, list);
-    }
-    let start = list.place;
-    let len = list.len;
-    let count = list.count;
-    if crate::fields::is_empty(list) {
-        return ListAdded {
-            answer: Answer::Done,
-            list: TextList {
-                place: at,
-                len: end - at,
-                count: 1,
-            },
-        };
-    }
-    if at < start {
-        return kept_list(Answer::BadText { field }, list);
-    }
-    if at - start != len {
-        return kept_list(Answer::BadText { field }, list);
-    }
-    ListAdded {
-        answer: Answer::Done,
-        list: TextList {
-            place: start,
-            len: end - start,
-            count: count + 1,
-        },
-    }
 }
 
 // The record of a builder: each flag where its field is present or its list has an entry.
@@ -117,9 +49,9 @@ fn with_flags(b: PfdContentsBuilder) -> PfdContents
         domain_name.given,
         custom_pfd_content.given,
         domain_name_protocol.given,
-        !crate::fields::is_empty(additional_flow_description),
-        !crate::fields::is_empty(additional_url),
-        !crate::fields::is_empty(additional_domain_name_and_protocol),
+        !additional_flow_description.is_empty(),
+        !additional_url.is_empty(),
+        !additional_domain_name_and_protocol.is_empty(),
     );
     PfdContents {
         flags,
@@ -245,7 +177,7 @@ impl PfdContentsBuilder {
         ensures { λ r. ⌜ r ≡ addedTo (withFlows self) (added 16 (now (texts .entry)) (self .«additional_flow_description») place) ⌝ }
     {
         let before = self.additional_flow_description;
-        let step = extended(texts, 16, before, place);
+        let step = before.with_entry(texts, 16, place);
         let answer = step.answer;
         let list = step.list;
         let builder = self.additional_flow_descriptions(list);
@@ -256,7 +188,7 @@ impl PfdContentsBuilder {
         ensures { λ r. ⌜ r ≡ addedTo (withUrls self) (added 17 (now (texts .entry)) (self .«additional_url») place) ⌝ }
     {
         let before = self.additional_url;
-        let step = extended(texts, 17, before, place);
+        let step = before.with_entry(texts, 17, place);
         let answer = step.answer;
         let list = step.list;
         let builder = self.additional_urls(list);
@@ -271,7 +203,7 @@ impl PfdContentsBuilder {
         ensures { λ r. ⌜ r ≡ addedTo (withNames self) (added 18 (now (texts .entry)) (self .«additional_domain_name_and_protocol») place) ⌝ }
     {
         let before = self.additional_domain_name_and_protocol;
-        let step = extended(texts, 18, before, place);
+        let step = before.with_entry(texts, 18, place);
         let answer = step.answer;
         let list = step.list;
         let builder = self.additional_domain_names_and_protocols(list);

@@ -1,42 +1,17 @@
 // The writer: every test first, then a row of eight stores, each behind the one before it.
-use crate::MaybeText;
 use crate::PfdContents;
-use crate::TextList;
 use answer::Answer;
 use answer::Written;
+use text_fields::MaybeText;
+use text_fields::TextList;
 ghost use mathlib.Core.Path.{_≡_};
-ghost use mathlib.Core.List.{_∷_, []};
 ghost use Prim.Native.Nat.{_≤_};
 ghost use lib.ListN.{length};
 ghost use Rattle.octets.specs.Octets.{put};
 ghost use Rattle.kind.specs.Write.{answered, stored};
-ghost use Rattle.pfd_contents.specs.PfdContents.{fieldOf, isMaybe, isList, tested, refusal, meaning, wire};
-ghost use Rattle.pfd_contents.specs.Steps.{behindPut, runBytes, textBytes, form, asRefusal, judged};
-
-// The number of the first field that can't be, 0 so long as there is none: here a text, with the number that was found before it.
-fn bad_text(before: u8, texts: &[u8], field: u8, x: MaybeText) -> u8
-    ensures { λ r. ⌜ r ≡ judged before (isMaybe (now (texts .entry)) x) field ⌝ }
-{
-    if before != 0 {
-        return before;
-    }
-    if crate::fields::is_maybe(texts, x) {
-        return 0;
-    }
-    field
-}
-
-fn bad_list(before: u8, texts: &[u8], field: u8, x: TextList) -> u8
-    ensures { λ r. ⌜ r ≡ judged before (isList (now (texts .entry)) x) field ⌝ }
-{
-    if before != 0 {
-        return before;
-    }
-    if crate::fields::is_list(texts, x) {
-        return 0;
-    }
-    field
-}
+ghost use Rattle.text_fields.specs.Steps.{runBytes, textBytes};
+ghost use Rattle.pfd_contents.specs.PfdContents.{tested, refusal, meaning, wire};
+ghost use Rattle.pfd_contents.specs.Steps.{form, asRefusal};
 
 // The fields in wire order.
 pub(crate) fn bad_field(texts: &[u8], r: PfdContents) -> u8
@@ -50,14 +25,14 @@ pub(crate) fn bad_field(texts: &[u8], r: PfdContents) -> u8
     let flows = r.additional_flow_description;
     let urls = r.additional_url;
     let names = r.additional_domain_name_and_protocol;
-    let by_flow = bad_text(0, texts, 11, flow);
-    let by_url = bad_text(by_flow, texts, 12, url);
-    let by_domain = bad_text(by_url, texts, 13, domain);
-    let by_custom = bad_text(by_domain, texts, 14, custom);
-    let by_protocol = bad_text(by_custom, texts, 15, protocol);
-    let by_flows = bad_list(by_protocol, texts, 16, flows);
-    let by_urls = bad_list(by_flows, texts, 17, urls);
-    bad_list(by_urls, texts, 18, names)
+    let by_flow = flow.first_bad(0, texts, 11);
+    let by_url = url.first_bad(by_flow, texts, 12);
+    let by_domain = domain.first_bad(by_url, texts, 13);
+    let by_custom = custom.first_bad(by_domain, texts, 14);
+    let by_protocol = protocol.first_bad(by_custom, texts, 15);
+    let by_flows = flows.first_bad(by_protocol, texts, 16);
+    let by_urls = urls.first_bad(by_flows, texts, 17);
+    names.first_bad(by_urls, texts, 18)
 }
 
 // How many bytes a text is written as.
@@ -108,63 +83,6 @@ fn form_width(texts: &[u8], r: PfdContents) -> usize
     end_urls + list_width(texts, names)
 }
 
-// Puts bytes at a place and says the place behind them. Bytes that don't fit aren't put.
-fn put_run(out: &mut [u8], at: usize, bs: &[u8]) -> usize
-    ensures { λ r. ⌜ r ≡ behindPut (length (now (out .entry))) at (now (bs .entry)) ⌝ }
-    ensures { λ r. ⌜ now (out .exit) ≡ put (now (out .entry)) at (now (bs .entry)) ⌝ }
-{
-    if out.len() < bs.len() {
-        return at;
-    }
-    if out.len() - bs.len() < at {
-        return at;
-    }
-    octets::put_bytes(out, at, bs);
-    at + bs.len()
-}
-
-// The same of a field: its two-byte length and its text.
-fn put_field(out: &mut [u8], at: usize, bs: &[u8]) -> usize
-    ensures { λ r. ⌜ r ≡ behindPut (length (now (out .entry))) at (fieldOf (now (bs .entry))) ⌝ }
-    ensures { λ r. ⌜ now (out .exit) ≡ put (now (out .entry)) at (fieldOf (now (bs .entry))) ⌝ }
-{
-    if out.len() < 2 {
-        return at;
-    }
-    if out.len() - 2 < at {
-        return at;
-    }
-    let place = at + 2;
-    if out.len() - place < bs.len() {
-        return at;
-    }
-    octets::put_number(out, at, 2, bs.len() as u64);
-    octets::put_bytes(out, place, bs);
-    place + bs.len()
-}
-
-fn put_text(out: &mut [u8], at: usize, texts: &[u8], x: MaybeText) -> usize
-    ensures { λ r. ⌜ r ≡ behindPut (length (now (out .entry))) at (textBytes (now (texts .entry)) x) ⌝ }
-    ensures { λ r. ⌜ now (out .exit) ≡ put (now (out .entry)) at (textBytes (now (texts .entry)) x) ⌝ }
-{
-    let given = x.given;
-    let place = x.place;
-    let len = x.len;
-    if !given {
-        return at;
-    }
-    put_field(out, at, texts::part(texts, place, len))
-}
-
-fn put_list(out: &mut [u8], at: usize, texts: &[u8], x: TextList) -> usize
-    ensures { λ r. ⌜ r ≡ behindPut (length (now (out .entry))) at (runBytes (now (texts .entry)) x) ⌝ }
-    ensures { λ r. ⌜ now (out .exit) ≡ put (now (out .entry)) at (runBytes (now (texts .entry)) x) ⌝ }
-{
-    let place = x.place;
-    let len = x.len;
-    put_run(out, at, texts::part(texts, place, len))
-}
-
 // Puts the whole written form, for which there is room.
 fn put_form(out: &mut [u8], texts: &[u8], r: PfdContents)
     requires { ⌜ length (form (now texts) r) ≤ length (now out) ⌝ }
@@ -179,15 +97,15 @@ fn put_form(out: &mut [u8], texts: &[u8], r: PfdContents)
     let urls = r.additional_url;
     let names = r.additional_domain_name_and_protocol;
     let head = [r.flags, 0];
-    let at_flow = put_run(out, 0, &head);
-    let at_url = put_text(out, at_flow, texts, flow);
-    let at_domain = put_text(out, at_url, texts, url);
-    let at_custom = put_text(out, at_domain, texts, domain);
-    let at_protocol = put_text(out, at_custom, texts, custom);
-    let at_flows = put_text(out, at_protocol, texts, protocol);
-    let at_urls = put_list(out, at_flows, texts, flows);
-    let at_names = put_list(out, at_urls, texts, urls);
-    put_list(out, at_names, texts, names);
+    let at_flow = text_fields::put_run(out, 0, &head);
+    let at_url = flow.put(texts, out, at_flow);
+    let at_domain = url.put(texts, out, at_url);
+    let at_custom = domain.put(texts, out, at_domain);
+    let at_protocol = custom.put(texts, out, at_custom);
+    let at_flows = protocol.put(texts, out, at_protocol);
+    let at_urls = flows.put(texts, out, at_flows);
+    let at_names = urls.put(texts, out, at_urls);
+    names.put(texts, out, at_names);
 }
 
 fn unwritten(answer: Answer) -> Written

@@ -1,5 +1,5 @@
 -- `pfd_contents::PfdContents::domain_and_protocol` meets its contract: two setters and a build.
-use Rattle.pfd_contents.specs.PfdContents.{textOf}
+use Rattle.text_fields.specs.Fields.{textOf}
 use Rattle.pfd_contents.specs.Builder.{withDomain, withProtocol}
 use Rattle.pfd_contents.specs.declared.build.PfdContentsBuilder.{PfdContentsBuilder}
 use Rattle.pfd_contents.proofs.Building.{set-two}

@@ -1,5 +1,5 @@
 -- `pfd_contents::PfdContents::domain_name` meets its contract: one setter and a build.
-use Rattle.pfd_contents.specs.PfdContents.{textOf}
+use Rattle.text_fields.specs.Fields.{textOf}
 use Rattle.pfd_contents.specs.Builder.{withDomain}
 use Rattle.pfd_contents.specs.declared.build.PfdContentsBuilder.{PfdContentsBuilder}
 use Rattle.pfd_contents.proofs.Building.{set-one}

@@ -11,32 +11,32 @@ bit-requires c κs = search needs
 bit-requires-2 : tie.Need-bit-requires-2
 bit-requires-2 c κs = search needs
 
-text-step-requires : tie.Need-text-step-requires
-text-step-requires c κs = search needs
+read-requires : tie.Need-read-requires
+read-requires c κs = search needs
 
-text-step-requires-2 : tie.Need-text-step-requires-2
-text-step-requires-2 c κs = search needs
+read-requires-2 : tie.Need-read-requires-2
+read-requires-2 c κs = search needs
 
-text-step-requires-3 : tie.Need-text-step-requires-3
-text-step-requires-3 c κs = search needs
+read-requires-3 : tie.Need-read-requires-3
+read-requires-3 c κs = search needs
 
-text-step-requires-4 : tie.Need-text-step-requires-4
-text-step-requires-4 c κs = search needs
+read-requires-4 : tie.Need-read-requires-4
+read-requires-4 c κs = search needs
 
-text-step-requires-5 : tie.Need-text-step-requires-5
-text-step-requires-5 c κs = search needs
+read-requires-5 : tie.Need-read-requires-5
+read-requires-5 c κs = search needs
 
 either-requires : tie.Need-either-requires
 either-requires c κs = search needs
 
-list-step-requires : tie.Need-list-step-requires
-list-step-requires c κs = search needs
+read-requires-6 : tie.Need-read-requires-6
+read-requires-6 c κs = search needs
 
-list-step-requires-2 : tie.Need-list-step-requires-2
-list-step-requires-2 c κs = search needs
+read-requires-7 : tie.Need-read-requires-7
+read-requires-7 c κs = search needs
 
-list-step-requires-3 : tie.Need-list-step-requires-3
-list-step-requires-3 c κs = search needs
+read-requires-8 : tie.Need-read-requires-8
+read-requires-8 c κs = search needs
 
 finish-requires : tie.Need-finish-requires
 finish-requires c κs = search needs
@@ -56,8 +56,8 @@ returns c =
     let u = n .before in
     c .finish .ensures
     ∙ fields-read _ _ (u .bit .ensures) (n .bit2 .ensures) (e .either .ensures)
-    (c₁ .text-step .ensures) (c₂ .text-step2 .ensures) (c₃ .text-step3 .ensures) (c₄ .text-step4 .ensures) (c₅ .text-step5 .ensures)
-    (c₆ .list-step .ensures) (c₇ .list-step2 .ensures) (c₈ .list-step3 .ensures)
+    (c₁ .read .ensures) (c₂ .read2 .ensures) (c₃ .read3 .ensures) (c₄ .read4 .ensures) (c₅ .read5 .ensures)
+    (c₆ .read6 .ensures) (c₇ .read7 .ensures) (c₈ .read8 .ensures)
 
 pub read-fields-spec : {M : Type 1} → statement M
 read-fields-spec =
@@ -65,14 +65,14 @@ read-fields-spec =
     (tie.spec
     bit-requires
     bit-requires-2
-    text-step-requires
-    text-step-requires-2
-    text-step-requires-3
-    text-step-requires-4
-    text-step-requires-5
+    read-requires
+    read-requires-2
+    read-requires-3
+    read-requires-4
+    read-requires-5
     either-requires
-    list-step-requires
-    list-step-requires-2
-    list-step-requires-3
+    read-requires-6
+    read-requires-7
+    read-requires-8
     finish-requires
     returns)

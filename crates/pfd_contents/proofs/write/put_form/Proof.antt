@@ -2,7 +2,8 @@
 use native.Mathlib.Omega.{arith}
 use mathlib.Core.Path.{ap, _∙_}
 use lib.ListN.{length}
-use Rattle.pfd_contents.proofs.Written.{length-put, all-put}
+use Rattle.text_fields.proofs.Stores.{length-put}
+use Rattle.pfd_contents.proofs.Written.{all-put}
 use borrow.Author.Needs.{needs}
 use Rattle.pfd_contents.proofs.write.put_form.Statement.{statement}
 use Rattle.pfd_contents.proofs.write.put_form.Tie as tie
@@ -13,29 +14,29 @@ slice-aggregate-put-run c = search needs
 put-run-requires : tie.Need-put-run-requires
 put-run-requires c κs = search needs
 
-put-text-requires : tie.Need-put-text-requires
-put-text-requires c κs = search needs
+put-requires : tie.Need-put-requires
+put-requires c κs = search needs
 
-put-text-requires-2 : tie.Need-put-text-requires-2
-put-text-requires-2 c κs = search needs
+put-requires-2 : tie.Need-put-requires-2
+put-requires-2 c κs = search needs
 
-put-text-requires-3 : tie.Need-put-text-requires-3
-put-text-requires-3 c κs = search needs
+put-requires-3 : tie.Need-put-requires-3
+put-requires-3 c κs = search needs
 
-put-text-requires-4 : tie.Need-put-text-requires-4
-put-text-requires-4 c κs = search needs
+put-requires-4 : tie.Need-put-requires-4
+put-requires-4 c κs = search needs
 
-put-text-requires-5 : tie.Need-put-text-requires-5
-put-text-requires-5 c κs = search needs
+put-requires-5 : tie.Need-put-requires-5
+put-requires-5 c κs = search needs
 
-put-list-requires : tie.Need-put-list-requires
-put-list-requires c κs = search needs
+put-requires-6 : tie.Need-put-requires-6
+put-requires-6 c κs = search needs
 
-put-list-requires-2 : tie.Need-put-list-requires-2
-put-list-requires-2 c κs = search needs
+put-requires-7 : tie.Need-put-requires-7
+put-requires-7 c κs = search needs
 
-put-list-requires-3 : tie.Need-put-list-requires-3
-put-list-requires-3 c κs = search needs
+put-requires-8 : tie.Need-put-requires-8
+put-requires-8 c κs = search needs
 
 returns : tie.Need-returns
 returns c =
@@ -48,8 +49,8 @@ returns c =
     let c₂ = c₃ .before .before .before .before in
     let c₁ = c₂ .before .before .before .before in
     let c₀ = c₁ .before .before .before .before in
-    all-put _ _ _ (omega (arith, c₀)) (c₀ .put-run .ensures) (c₁ .put-text .ensures) (c₂ .put-text2 .ensures) (c₃ .put-text3 .ensures) (c₄ .put-text4 .ensures) (c₅ .put-text5 .ensures)
-    (c₆ .put-list .ensures) (c₇ .put-list2 .ensures) (c₈ .put-list3 .ensures)
+    all-put _ _ _ (omega (arith, c₀)) (c₀ .put-run .ensures) (c₁ .put .ensures) (c₂ .put2 .ensures) (c₃ .put3 .ensures) (c₄ .put4 .ensures) (c₅ .put5 .ensures)
+    (c₆ .put6 .ensures) (c₇ .put7 .ensures) (c₈ .put8 .ensures)
 
 same-length : tie.Need-same-length
 same-length c = ap length (returns c) ∙ length-put _ _ _
@@ -60,13 +61,13 @@ put-form-spec =
     (tie.spec
     slice-aggregate-put-run
     put-run-requires
-    put-text-requires
-    put-text-requires-2
-    put-text-requires-3
-    put-text-requires-4
-    put-text-requires-5
-    put-list-requires
-    put-list-requires-2
-    put-list-requires-3
+    put-requires
+    put-requires-2
+    put-requires-3
+    put-requires-4
+    put-requires-5
+    put-requires-6
+    put-requires-7
+    put-requires-8
     same-length
     returns)

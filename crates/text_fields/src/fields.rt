@@ -1,0 +1,117 @@
+// Fields in wire form, a two-byte length and UTF-8 text each, and the texts and lists that can be.
+use crate::Fault;
+use crate::MaybeText;
+use crate::TextList;
+use texts::Text;
+ghost use mathlib.Core.Path.{_≡_};
+ghost use mathlib.Core.Bool.{_&&_};
+ghost use Prim.Native.Nat.{_<_};
+ghost use Rattle.text_fields.specs.Fields.{lengthAt, fieldAt, entries, isMaybe, isEmpty, isList};
+
+// What stands at a place: no field, a whole one with its text, or a faulty one.
+pub enum Field {
+    Absent,
+    Whole { place: usize, len: usize },
+    Faulty(Fault),
+}
+
+// The fields from a place on: how many, and the place behind the last; or the fault in one.
+pub enum Entries {
+    Run { count: usize, next: usize },
+    Broken(Fault),
+}
+
+// The length that a field states; a byte past the end is none.
+fn length_at(s: &[u8], at: usize) -> usize
+    ensures { λ r. ⌜ r ≡ lengthAt (now (s .entry)) at ⌝ }
+    ensures { λ r. ⌜ r < 65536 ⌝ }
+{
+    octets::number(texts::part(s, at, 2)) as usize
+}
+
+pub(crate) fn field_at(s: &[u8], at: usize) -> Field
+    ensures { λ r. ⌜ r ≡ fieldAt (now (s .entry)) at ⌝ }
+{
+    let n = s.len();
+    if n < 2 {
+        return Field::Absent;
+    }
+    if n - 2 < at {
+        return Field::Absent;
+    }
+    let place = at + 2;
+    let len = length_at(s, at);
+    let end = place + len;
+    if n < end {
+        return Field::Faulty(Fault::Past { end, len: n });
+    }
+    let good = text::well_formed(&s[place..end]);
+    if good < len {
+        return Field::Faulty(Fault::Garbled {
+            place: place + good,
+        });
+    }
+    Field::Whole { place, len }
+}
+
+// The fields from a place on while there are any, at most `most`.
+pub(crate) fn entries_at(s: &[u8], at: usize, most: usize) -> Entries
+    ensures { λ r. ⌜ r ≡ entries most (now (s .entry)) at 0 ⌝ }
+{
+    let mut next = at;
+    let mut count = 0;
+    while count < most {
+        match field_at(s, next) {
+            Field::Absent => return Entries::Run { count, next },
+            Field::Whole { place, len } => {
+                next = place + len;
+                count += 1;
+            }
+            Field::Faulty(fault) => return Entries::Broken(fault),
+        }
+    }
+    Entries::Run { count, next }
+}
+
+// A text that is absent, or good in its slice.
+pub(crate) fn is_maybe(texts: &[u8], x: MaybeText) -> bool
+    ensures { λ r. ⌜ r ≡ isMaybe (now (texts .entry)) x ⌝ }
+{
+    let given = x.given;
+    let place = x.place;
+    let len = x.len;
+    if !given {
+        return true;
+    }
+    Text { place, len }.is_good(texts)
+}
+
+fn both(a: bool, b: bool) -> bool
+    ensures { λ r. ⌜ r ≡ (a && b) ⌝ }
+{
+    a && b
+}
+
+impl TextList {
+    pub fn is_empty(self) -> bool
+        ensures { λ r. ⌜ r ≡ isEmpty self ⌝ }
+    {
+        both(self.count == 0, self.len == 0)
+    }
+}
+
+// A list that is empty, or a run of the slice that is just so many good fields and just so many bytes.
+pub(crate) fn is_list(texts: &[u8], x: TextList) -> bool
+    ensures { λ r. ⌜ r ≡ isList (now (texts .entry)) x ⌝ }
+{
+    let place = x.place;
+    let len = x.len;
+    let count = x.count;
+    if x.is_empty() {
+        return true;
+    }
+    match entries_at(texts, place, count) {
+        Entries::Run { count: k, next } => both(k == count, next - place == len),
+        Entries::Broken(_) => false,
+    }
+}
