@@ -1,0 +1,512 @@
+"""The named ways in which a peer's answer differs from ours. Used by peers/compare.
+
+A class is a function. It is given a Case and returns the names of those differences that it accounts for, having
+checked that they are of the shape it says: by the payload's bytes, not by its own say-so. A difference that no class
+takes makes peers/compare fail.
+"""
+
+CLASSES = []
+
+
+class Class:
+    def __init__(self, name, kinds, check, words):
+        self.name, self.kinds, self.check, self.words = name, kinds, check, words
+
+
+def differs(name, kinds, here, there, standard):
+    """Names a class: what we do (which is what document 01 says), what the peer does, and who is right by the standard."""
+
+    def add(check):
+        CLASSES.append(Class(name, kinds, check, (here, there, standard)))
+        return check
+
+    return add
+
+
+# ---------------------------------------------------------------- the bytes, read plainly
+
+NAMES = ["fd", "url", "dn", "cp", "dnp", "afd", "aurl", "adnp"]
+SPARE = {"U": 0x80, "F": 0xF0, "S": 0xFC}
+
+
+def plain(kind, payload):
+    """The fields by the flags alone, no rule asked: for U and F, whole payloads only."""
+    first, at, got = payload[0], 1, {}
+    if kind == "U":
+        fields = [("ipv4", 0x02, 4), ("ipv6", 0x01, 16), ("db", 0x08, 1), ("pl", 0x40, 1)]
+    else:
+        fields = [("teid", 0xFF, 4), ("ipv4", 0x01, 4), ("ipv6", 0x02, 16)]
+    for name, bits, width in fields:
+        if first & bits or name == "teid":
+            got[name] = payload[at:at + width].hex().upper()
+            at += width
+        else:
+            got[name] = "-"
+    return got, at
+
+
+def dotted(text):
+    """The text taken as DNS labels, with dots; a cut label gives what is there."""
+    out = b""
+    while text:
+        label, text = text[1:1 + text[0]], text[1 + text[0]:]
+        out += label + (b"." if text else b"")
+    return out
+
+
+def label_form(text):
+    """How the text stands as labels: whole, closed by a zero byte, or cut."""
+    while text:
+        if text == b"\0":
+            return "closed"
+        if len(text) < 1 + text[0]:
+            return "cut"
+        text = text[1 + text[0]:]
+    return "whole"
+
+
+def shown(text):
+    """As tshark's XML gives a text: up to a zero byte, U+FFFD for a byte that isn't ASCII, control bytes escaped or a space."""
+    out = ""
+    for b in text.split(b"\0")[0]:
+        out += "\ufffd" if b > 0x7F else chr(b) if 0x20 <= b < 0x7F else " " if b in b"\t\n\r" else f"\\x{b:x}"
+    return out.encode()
+
+
+def text_of(token):
+    return b"" if token == "?" else bytes.fromhex(token.split('"')[1])
+
+
+def name_there(peer, text):
+    """What the peer makes of a node name."""
+    if peer == "scapy":
+        return dotted(text)
+    return shown(text if text[0] >= 0x40 else dotted(text))
+
+
+def node_there(c):
+    """The peer goes by the low four bits of the first byte, and reads what they say."""
+    kind, rest, got = c.payload[0] & 15, c.payload[1:], c.theirs.fields
+    if c.theirs.verdict != "read" or got["type"] != str(kind):
+        return False
+    if kind < 2:
+        name, width = [("ipv4", 4), ("ipv6", 16)][kind]
+        return got[name] == (rest[:width].hex().upper() or "?")
+    return kind > 2 or text_of(got["name"]) == name_there(c.peer, rest)
+
+
+WIRE = {"U": (1, "ipv4 ipv6 db pl"), "F": (1, "teid ipv4 ipv6 cid"), "S": (9, "ipv4 ipv6"), "N": (1, "ipv4 ipv6"),
+        "O": (2, "teid ipv4 ipv6 port ctag stag")}
+
+
+def in_wire_order(c):
+    """The fields that the peer gives are the payload's bytes, one behind another, as far as it read."""
+    if c.kind == "P":
+        return opaque_there(c)
+    head, names = WIRE[c.kind]
+    values = [(n, c.theirs.fields.get(n, "-")) for n in names.split()]
+    given = "".join(v[2:] if n in ("ctag", "stag") else v for n, v in values if v not in ("-", "?"))
+    return given == c.payload[head:c.theirs.used].hex().upper()
+
+
+class Short(Exception):
+    pass
+
+
+def outer_form(payload):
+    """PFD Contents with an outer length before each list. The texts of a list may run past it, as they may in the
+    dissector. Gives single texts with their places, lists, the end, and whether a list ran past. Raises Short."""
+    at, past = 2, False
+    singles, lists = {}, {}
+
+    def number():
+        nonlocal at
+        if at + 2 > len(payload):
+            raise Short
+        at += 2
+        return int.from_bytes(payload[at - 2:at], "big")
+
+    def text():
+        nonlocal at
+        n = number()
+        if at + n > len(payload):
+            raise Short
+        at += n
+        return payload[at - n:at]
+
+    for bit, name in enumerate(NAMES):
+        if not payload[0] >> bit & 1:
+            continue
+        if bit < 5:
+            t = text()
+            singles[name] = (t, at - len(t))
+            continue
+        n = number()
+        end, lists[name] = at + n, []
+        while at < end:
+            lists[name].append(text())
+            if name == "adnp":
+                lists[name].append(text())
+        past = past or at > end
+    return singles, lists, at, past
+
+
+def readable(payload):
+    """The same, None where it is short."""
+    try:
+        return outer_form(payload)
+    except Short:
+        return None
+
+
+def opaque_there(c):
+    """scapy's reading of PFD Contents: a length and bytes for each flagged field, lists too, cut where the payload ends."""
+    at = 2
+    for bit, name in enumerate(NAMES):
+        token = c.theirs.fields[name]
+        if not c.payload[0] >> bit & 1:
+            if token != "-":
+                return False
+            continue
+        n = int.from_bytes(c.payload[at:at + 2], "big")
+        text = c.payload[at + 2:at + 2 + n]
+        if token == "?" and text or token != "?" and text_of(token) != text:
+            return False
+        at = min(at + 2 + n, len(c.payload))
+    return at == c.theirs.used or len(c.payload) < 2
+
+
+def lists_at(payload):
+    """Where the first list begins, or None where a text before it is short or no list is flagged."""
+    part = readable(bytes([payload[0] & 0x1F]) + payload[1:])
+    return part[2] if part and payload[0] >> 5 else None
+
+
+def hexes(texts):
+    return "[" + ",".join('"' + t.hex().upper() + '"' for t in texts) + "]"
+
+
+# ---------------------------------------------------------------- all kinds
+
+@differs("ALL-ZERO", "UFSNOP", "refusal 1", "tshark: the IE is to be removed; scapy 2.5.0 takes every field's default",
+         "tshark: an IE of length 0 is one to be removed (5.6.3, quoted). Whoever walks the IEs decides that; a payload reader isn't asked")
+def all_zero(c):
+    if c.payload == b"":
+        return set(c.items)
+
+
+@differs("ALL-SPARE", "UFSP", "read over, written as 0", "read over and shown; scapy writes them back",
+         "all read alike; here in writing: a spare bit is 0 when sent, and the receiver passes over it (from memory)")
+def all_spare(c):
+    took = set()
+    if c.notes.get("spare") == f"{c.payload[0] & SPARE.get(c.kind, 0):02X}":
+        took.add("note spare")
+    if c.kind == "P" and c.notes.get("byte1") and int(c.notes["byte1"], 16) == c.payload[1]:
+        took.add("note byte1")
+    return took | c.kept() if took else took
+
+
+@differs("ALL-REST", "UFSNOP", "ignored, not used, not written", "noted; scapy writes them back",
+         "all read alike: Wireshark's table marks all these IEs as extendable, so later fields may follow those known")
+def all_rest(c):
+    if c.peer == "scapy" and c.kind == "U" and c.payload[0] & 0x78:
+        return None  # the bytes of fields that scapy doesn't know
+    if c.notes.get("rest") and c.theirs.used + int(c.notes["rest"]) == len(c.payload):
+        return {"note rest"} | c.kept()
+
+
+@differs("ALL-DEFAULT", "UFSNOP", "refusal 1 (in PFD Contents an absent field)",
+         "scapy 2.5.0: where no byte is left a field has its default value (an absent IPv6 address then can't be written); later versions fail",
+         "here: a flagged field is to be there (quoted: `shall be present`)")
+def all_default(c):
+    missing = {k for k, v in c.theirs.fields.items() if v == "?"}
+    if c.peer != "scapy" or c.theirs.verdict != "read" or not in_wire_order(c):
+        return None
+    if not missing and not (c.kind in "OP" and len(c.payload) == 1):
+        return None
+    if c.ours.number == 0:
+        return missing | {"written", "note unwritable"}
+    if c.ours.number == 1:
+        return {"verdict", "note unwritable"}
+
+
+# ---------------------------------------------------------------- UE IP Address
+
+def u_rule(rule):
+    def check(c):
+        if c.peer == "tshark" and c.ours.details == ("2", str(rule)) and c.theirs.verdict == "read":
+            got, end = plain("U", c.payload)
+            if all(c.theirs.fields[k] == v for k, v in got.items()) and c.theirs.used == end:
+                return {"verdict"}
+    return check
+
+
+differs("U-RULE-1", "U", "refusal 2 rule 1: V4 with CHV4, or V6 with CHV6", "tshark: both flags and the address, no note",
+        "here (from memory): the pair is forbidden. That it is refused is the Rust's choice")(u_rule(1))
+differs("U-RULE-2", "U", "refusal 2 rule 2: IPv6D with IP6PL", "tshark: both bytes, no note",
+        "here (from memory): the pair is forbidden. That it is refused is the Rust's choice")(u_rule(2))
+differs("U-RULE-3", "U", "refusal 2 rule 3: IPv6D or IP6PL without V6 and CHV6", "tshark: the byte, no note",
+        "here (from memory): they go with V6 or CHV6. That it is refused is the Rust's choice")(u_rule(3))
+
+
+@differs("U-OLD", "U", "bits 3 to 6 are IPv6D, CHV4, CHV6, IP6PL, with their rules and bytes",
+         "scapy: spare bits, whose bytes are rest", "here: scapy follows V15.6.0, in which these bits were spare")
+def u_old(c):
+    if c.peer != "scapy" or not c.payload or not c.payload[0] & 0x78 or c.theirs.verdict != "read":
+        return None
+    if c.notes.get("spare") != f"{c.payload[0] & 0xF8:02X}":
+        return None
+    if not in_wire_order(c):
+        return None
+    took = {"note spare", "note rest", "note unwritable"} | c.kept()
+    if c.ours.number:
+        return took | {"verdict"}
+    return took | {"ip6d", "chv4", "chv6", "ip6pl", "db", "pl", "used"} & set(c.items)
+
+
+# ---------------------------------------------------------------- F-TEID and F-SEID
+
+@differs("F-CHID", "F", "refusal 2 rule 4: CHID without CH, before any length",
+         "tshark: TEID and addresses, with the note that the IE is wrongly encoded; scapy: a choose ID behind the addresses",
+         "here and tshark: CHID goes with CH alone (quoted). That it is refused is the Rust's choice; scapy's byte is its own")
+def f_chid(c):
+    if c.ours.details != ("2", "4") or c.theirs.verdict != "read":
+        return None
+    got, end = plain("F", c.payload)
+    if c.peer == "tshark" and all(c.theirs.fields[k] == v for k, v in got.items()) and c.theirs.used == end:
+        return {"verdict", "note wrong"}
+    got["cid"] = c.payload[end:end + 1].hex().upper()
+    if c.peer == "scapy" and all(c.theirs.fields[k] == (v or "?") for k, v in got.items()):
+        return {"verdict", "note unwritable"}
+
+
+@differs("S-NOADDR", "S", "accepted, with its SEID; the strict verdict says no",
+         "tshark: the note that the IE is wrongly encoded; it stops behind the flags and shows no SEID",
+         "tshark's note and the strict verdict: one of V4 and V6 is to be set (from memory)")
+def s_noaddr(c):
+    if c.peer == "tshark" and c.payload and not c.payload[0] & 3 and c.ours.number == 0 and c.theirs.used == 1:
+        return {"seid", "used", "note wrong"}
+
+
+@differs("S-NOADDR-SHORT", "S", "refusal 1", "tshark: only that note, as it stops before the missing bytes",
+         "here: the SEID is always there. Both say no")
+def s_noaddr_short(c):
+    if c.peer == "tshark" and c.payload and not c.payload[0] & 3 and c.ours.number == 1 and c.theirs.used == 1:
+        return {"verdict", "note wrong"}
+
+
+# ---------------------------------------------------------------- Node ID
+
+@differs("N-NIBBLE", "N", "refusal 3: the type is the whole first byte", "the type is the low four bits, the rest spare",
+         "they: the high four bits are spare")
+def n_nibble(c):
+    if c.ours.number == 3 and c.payload[0] >> 4 and node_there(c):
+        return {"verdict", "note spare", "note unwritable"} | ({"note wrong"} if c.payload[1:2] >= b"\x40" else set())
+
+
+@differs("N-TYPE", "N", "refusal 3: types 3 to 15", "accepted, the rest undecoded",
+         "both: such a type is left for later versions, so the receiver can make nothing of it")
+def n_type(c):
+    if c.ours.number == 3 and c.payload[0] < 16 and node_there(c):
+        return {"verdict"}
+
+
+def name_class(name, want, here, there, standard):
+    """The name is read by both, as plain text here and as labels there, and is such by `want`."""
+
+    @differs(name, "N", here, there, standard)
+    def check(c):
+        text = c.payload[1:]
+        if c.payload[0] != 2 or not text or c.ours.number or not want(text) or not node_there(c):
+            return None
+        wrong = {"note wrong"} if text[0] >= 0x40 else set()
+        return {"name"} | wrong | ({"written"} if c.peer == "scapy" else set())
+
+
+def is_plain(text):
+    return all(0x20 < b < 0x7F or b > 0x7F for b in text)
+
+
+name_class("N-LABELS", lambda t: t[0] < 0x40 and label_form(t) == "whole",
+           "the bytes as they stand, length bytes among them", "the labels, with dots between",
+           "they: a name is coded as in RFC 1035 3.1 without the trailing zero byte (quoted). A name by the standard is accepted here, and its length bytes stand in the text")
+name_class("N-CLOSED", lambda t: t[0] < 0x40 and label_form(t) == "closed" and len(t) > 1,
+           "the bytes as they stand", "the labels, and a dot behind the last",
+           "neither: the closing zero byte isn't sent")
+name_class("N-CUT", lambda t: t[0] < 0x40 and label_form(t) == "cut" and not is_plain(t),
+           "the bytes as they stand", "the labels, of the last what is there",
+           "neither: the last label is cut off, and nobody says so")
+name_class("N-DIGIT", lambda t: t[0] < 0x40 and label_form(t) == "cut" and is_plain(t),
+           "the text as it stands", "its first character (a digit, `-` or the like) is taken for a label's length and dropped, without a note",
+           "neither: plain text isn't the coding. Of `192.0.2.1` they show `92.0.2.1`")
+name_class("N-ZERO", lambda t: t == b"\0", "a text of one zero byte", "an empty name", "neither: no empty label is sent")
+name_class("N-PLAIN", lambda t: t[0] >= 0x40, "the text as it stands",
+           "tshark: dotted text with the note that the IE is wrongly encoded (a byte that isn't ASCII shown as U+FFFD); scapy: the first letter is a length, and dropped",
+           "tshark's note: plain text isn't the coding")
+
+
+@differs("N-EMPTY", "N", "accepted: the empty name", "tshark: malformed; scapy: an empty name, written back as `0200`",
+         "tshark: a name has at least one label")
+def n_empty(c):
+    if c.payload == b"\x02":
+        return {"verdict", "name", "written"} & set(c.items)
+
+
+@differs("N-UTF8", "N", "refusal 4", "read: tshark shows U+FFFD for such bytes, scapy the bytes",
+         "neither reading has a rule for it: the standard has DNS labels, not UTF-8. The check is the Rust's")
+def n_utf8(c):
+    if c.ours.number == 4 and node_there(c):
+        return {"verdict"} | ({"note wrong"} if c.payload[1] >= 0x40 else set())
+
+
+# ---------------------------------------------------------------- Outer Header Creation
+
+@differs("O-BYTE1", "O", "ignored, written as 0", "shown: from tshark 4.4 on bit 0 is the N19 indication, bit 1 the N6 indication, bit 2 low-layer SSM and C-TEID; scapy writes the byte back",
+         "tshark 4.4: the bits have a meaning since; that they are ignored is the Rust's")
+def o_byte1(c):
+    if c.notes.get("byte1") != f"{c.payload[1]:02X}" if len(c.payload) > 1 else True:
+        return None
+    named = {"note n19": 1, "note n6": 2, "note ssm_cteid": 4}
+    took = {"note byte1"} | c.kept()
+    return took | {n for n in named if n in c.items and c.payload[1] & named[n]}
+
+
+@differs("O-TAGS", "O", "a number of 24 bits", "tshark: presence bits, VID, DEI and PCP, from the same three bytes",
+         "tshark: that is the coding. Same bytes, more detail")
+def o_tags(c):
+    took = set()
+    for tag in ("ctag", "stag"):
+        if tag + ".vid" in c.notes and c.ours.fields[tag] == c.theirs.fields[tag]:
+            b = bytes.fromhex(c.ours.fields[tag])
+            parts = {"vid": (b[2] >> 4) << 8 | b[3], "dei": b[2] >> 3 & 1, "pcp": b[2] & 7}
+            took |= {f"note {tag}.{p}" for p, v in parts.items() if c.notes[f"{tag}.{p}"] == f"{v:X}"}
+    return took
+
+
+# ---------------------------------------------------------------- PFD Contents
+
+def outer_there(c, past=False):
+    """tshark's answer is the reading with outer lengths, which a text runs past or not."""
+    got = readable(c.payload)
+    if not got or c.theirs.verdict != "read":
+        return got is None and c.theirs.verdict == "malformed"
+    singles, lists, end, ran_past = got
+    fields = {n: f'"{t.hex().upper()}"@{at}' for n, (t, at) in singles.items()}
+    fields.update({n: hexes(ts) for n, ts in lists.items()})
+    return ran_past == past and c.theirs.used == end and all(c.theirs.fields[n] == v for n, v in fields.items())
+
+
+def missing_here(c):
+    """A flagged field that is absent, or a flagged list that is empty, in our answer."""
+    return any(c.payload[0] >> bit & 1 and c.ours.fields[n] in ("-", "[]") for bit, n in enumerate(NAMES))
+
+
+LIST_NOTES = {"note afd.len", "note aurl.len", "note adnp.len"}
+LISTS = {"afd", "aurl", "adnp"}
+
+
+@differs("P-LISTS-OTHER", "P", "the texts of a list stand one behind another, and each list but the last has one",
+         "tshark: a two-byte length of the whole list, then its texts (in the third list pairs of name and protocol). Both read, and read other texts",
+         "tshark: a list has a length of its own (quoted). **What the standard's coder writes is misread here without a word, as the Rust does**")
+def p_lists_other(c):
+    if c.peer == "tshark" and c.ours.number == 0 and c.theirs.verdict == "read" and outer_there(c):
+        return (LISTS | LIST_NOTES | {"used"}) & set(c.items)
+
+
+@differs("P-LISTS-REFUSED", "P", "refusal inside a list: 4, as a length byte of 80 or above is text here and isn't UTF-8 (or a text isn't); 1, as bytes behind the list are a text's length here",
+         "tshark: reads the list", "tshark, as above")
+def p_lists_refused(c):
+    if c.peer != "tshark" or c.ours.number not in (1, 4) or not outer_there(c):
+        return None
+    start = lists_at(c.payload)
+    if start is not None and (c.ours.number == 1 or int(c.ours.fields["place"]) >= start):
+        return ({"verdict"} | LIST_NOTES) & set(c.items)
+
+
+@differs("P-LISTS-PAST", "P", "as above: other texts, or a refusal", "tshark: a text that runs past the length of its list is read to its own end, without a note",
+         "neither: the two lengths contradict each other")
+def p_lists_past(c):
+    if c.peer == "tshark" and c.theirs.verdict == "read" and lists_at(c.payload) is not None and outer_there(c, past=True):
+        return LISTS | LIST_NOTES | {"used", "verdict"}
+
+
+@differs("P-LISTS-MALFORMED", "P", "reads the list", "tshark: malformed, as it takes the first text's length for the list's",
+         "tshark, as above: **a list written here is malformed there, or another list**")
+def p_lists_malformed(c):
+    if c.peer != "tshark" or c.ours.number or not outer_there(c):
+        return None
+    if lists_at(c.payload) is not None and not missing_here(c):
+        return {"verdict"}
+
+
+@differs("P-LISTS-OPAQUE", "P", "texts", "scapy: the bytes that the outer length counts, not taken apart (cut where the payload ends)",
+         "scapy as far as it goes, as above")
+def p_lists_opaque(c):
+    if c.peer != "scapy" or c.theirs.verdict != "read" or not c.payload[0] >> 5 or not opaque_there(c):
+        return None
+    took = {n for n in LISTS if c.theirs.fields[n].startswith('"')}
+    took |= {"used"} | c.kept() if took else set()
+    start = lists_at(c.payload)
+    if start is not None and (c.ours.number == 1 or c.ours.number == 4 and int(c.ours.fields["place"]) >= start):
+        took.add("verdict")
+    return took
+
+
+@differs("P-ABSENT", "P", "an absent field or an empty list: a flag with fewer than two bytes left", "malformed",
+         "they: a flagged field is to be there (quoted). The strict verdict says no too")
+def p_absent(c):
+    if c.ours.number == 0 and c.theirs.verdict == "malformed" and missing_here(c):
+        return {"verdict"}
+
+
+@differs("P-UTF8", "P", "refusal 4: a text isn't UTF-8", "read; tshark shows U+FFFD for each byte that isn't ASCII",
+         "they: each field is an OctetString (quoted). The check is the Rust's")
+def p_utf8(c):
+    if c.ours.number != 4 or c.theirs.verdict != "read" or not (opaque_there(c) if c.peer == "scapy" else outer_there(c)):
+        return None
+    start = lists_at(c.payload)
+    if start is None or int(c.ours.fields["place"]) < start:
+        return ({"verdict"} | LIST_NOTES) & set(c.items)
+
+
+@differs("P-CUT", "P", "refusal 1: a length past the end", "scapy: what is there (tshark: malformed)",
+         "here and tshark: the field isn't whole")
+def p_cut(c):
+    if c.peer == "scapy" and c.ours.number == 1 and len(c.payload) > 1 and c.theirs.verdict == "read":
+        if lists_at(c.payload) is None and opaque_there(c):
+            return {"verdict"}
+
+
+@differs("P-SHOWN", "P", "the bytes of the text", "tshark: the same bytes, but shows a text only up to a zero byte (with a note) and U+FFFD for each byte that isn't ASCII",
+         "here: the fields are octets; a matter of display")
+def p_shown(c):
+    if c.peer != "tshark":
+        return None
+    texts = [text_of(v) for k, v in c.theirs.fields.items() if v.startswith('"') and k != "cp"]
+    texts += [bytes.fromhex(t) for n in LISTS for t in c.theirs.fields.get(n, "").strip("[]").replace('"', "").split(",")]
+    took = set()
+    if "shown" in c.notes and text_of(c.notes["shown"]) in [shown(t) for t in texts]:
+        took.add("note shown")
+    if "stray" in c.notes and any(b"\0" in t for t in texts):
+        took.add("note stray")
+    return took
+
+
+# ---------------------------------------------------------------- where all are of one mind
+
+# A payload, the peers that read it as we do, and what is worth knowing about it.
+AGREED = [
+    ("U 00", "tshark scapy", "no flag at all is accepted", ""),
+    ("U 28C0", "tshark", "IPv6D with CHV6 and no V6 is accepted, with its byte", "ties IPv6D to V6 (from memory)"),
+    ("U 60C0", "tshark", "a prefix length of 192 is accepted, as any byte is", ""),
+    ("U 12", "tshark", "refused: here for the flags, which are looked at first (rule 1), there for the missing address", ""),
+    ("F 05", "tshark scapy", "with CH no TEID and no address follow; V4 is kept", "the same (quoted)"),
+    ("F 0D05", "tshark scapy", "with CH and CHID one byte follows", "the same"),
+    ("F 0C", "tshark", "a choose ID cut off is refused", ""),
+    ("F 0000000007", "tshark scapy", "neither CH nor V4 nor V6 is accepted, without a note. The strict verdict says no", "wants V4 or V6 (from memory)"),
+    ("F 0100000007C0000201", "tshark scapy", "V4 is bit 0 and V6 bit 1 in F-TEID", "the same"),
+    ("S 020000000000000005C0000201", "tshark scapy", "V6 is bit 0 and V4 bit 1 in F-SEID and UE IP Address", "the same"),
+    ("O 0000", "tshark scapy", "no bit at all is accepted", ""),
+    ("O FF000000000700000001000000000000000000000000000000020868400001800001", "tshark scapy", "all kinds of header at once are accepted, six fields in one order", "the same order (quoted)"),
+    ("P 1000000161", "tshark scapy", "a domain name protocol without a domain name is accepted, by the strict verdict too", "forbids it (quoted: the domain name fields shall also be present)"),
+]
