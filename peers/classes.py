@@ -1,8 +1,8 @@
 """The named ways in which a peer's answer differs from ours. Used by peers/compare.
 
-A class is a function. It is given a Case and returns the names of those differences that it accounts for, having
-checked that they are of the shape it says: by the payload's bytes, not by its own say-so. A difference that no class
-takes makes peers/compare fail.
+A class is a function. It is given a Case, whose payload is empty for ALL-ZERO alone, and returns the names of the
+differences that it accounts for. It must check by the payload's bytes that they are of the shape it says. A difference
+that no class takes makes peers/compare fail.
 """
 
 CLASSES = []
@@ -252,16 +252,14 @@ differs("U-RULE-3", "U", "refusal 2 rule 3: IPv6D or IP6PL without V6 and CHV6",
 @differs("U-OLD", "U", "bits 3 to 6 are IPv6D, CHV4, CHV6, IP6PL, with their rules and bytes",
          "scapy: spare bits, whose bytes are rest", "here: scapy follows V15.6.0, in which these bits were spare")
 def u_old(c):
-    if c.peer != "scapy" or not c.payload or not c.payload[0] & 0x78 or c.theirs.verdict != "read":
+    if c.peer != "scapy" or not c.payload[0] & 0x78 or c.theirs.verdict != "read":
         return None
-    if c.notes.get("spare") != f"{c.payload[0] & 0xF8:02X}":
-        return None
-    if not in_wire_order(c):
+    if c.notes.get("spare") != f"{c.payload[0] & 0xF8:02X}" or not in_wire_order(c):
         return None
     took = {"note spare", "note rest", "note unwritable"} | c.kept()
     if c.ours.number:
         return took | {"verdict"}
-    return took | {"ip6d", "chv4", "chv6", "ip6pl", "db", "pl", "used"} & set(c.items)
+    return took | {"ip6d", "chv4", "chv6", "ip6pl", "db", "pl", "used"}
 
 
 # ---------------------------------------------------------------- F-TEID and F-SEID
@@ -284,28 +282,28 @@ def f_chid(c):
          "tshark: the note that the IE is wrongly encoded; it stops behind the flags and shows no SEID",
          "tshark's note and the strict verdict: one of V4 and V6 is to be set (from memory)")
 def s_noaddr(c):
-    if c.peer == "tshark" and c.payload and not c.payload[0] & 3 and c.ours.number == 0 and c.theirs.used == 1:
+    if c.peer == "tshark" and not c.payload[0] & 3 and c.ours.number == 0 and c.theirs.used == 1:
         return {"seid", "used", "note wrong"}
 
 
 @differs("S-NOADDR-SHORT", "S", "refusal 1", "tshark: only that note, as it stops before the missing bytes",
          "here: the SEID is always there. Both say no")
 def s_noaddr_short(c):
-    if c.peer == "tshark" and c.payload and not c.payload[0] & 3 and c.ours.number == 1 and c.theirs.used == 1:
+    if c.peer == "tshark" and not c.payload[0] & 3 and c.ours.number == 1 and c.theirs.used == 1:
         return {"verdict", "note wrong"}
 
 
 # ---------------------------------------------------------------- Node ID
 
 @differs("N-NIBBLE", "N", "refusal 3: the type is the whole first byte", "the type is the low four bits, the rest spare",
-         "they: the high four bits are spare")
+         "they: the high four bits are spare (quoted)")
 def n_nibble(c):
     if c.ours.number == 3 and c.payload[0] >> 4 and node_there(c):
         return {"verdict", "note spare", "note unwritable"} | ({"note wrong"} if c.payload[1:2] >= b"\x40" else set())
 
 
 @differs("N-TYPE", "N", "refusal 3: types 3 to 15", "accepted, the rest undecoded",
-         "both: such a type is left for later versions, so the receiver can make nothing of it")
+         "both: such a type is left for later versions (from memory), and a receiver can make nothing of it")
 def n_type(c):
     if c.ours.number == 3 and c.payload[0] < 16 and node_there(c):
         return {"verdict"}
@@ -346,10 +344,10 @@ name_class("N-PLAIN", lambda t: t[0] >= 0x40, "the text as it stands",
 
 
 @differs("N-EMPTY", "N", "accepted: the empty name", "tshark: malformed; scapy: an empty name, written back as `0200`",
-         "tshark: a name has at least one label")
+         "tshark: a name has at least one label (from memory)")
 def n_empty(c):
     if c.payload == b"\x02":
-        return {"verdict", "name", "written"} & set(c.items)
+        return {"verdict", "name", "written"}
 
 
 @differs("N-UTF8", "N", "refusal 4", "read: tshark shows U+FFFD for such bytes, scapy the bytes",
@@ -364,11 +362,10 @@ def n_utf8(c):
 @differs("O-BYTE1", "O", "ignored, written as 0", "shown: from tshark 4.4 on bit 0 is the N19 indication, bit 1 the N6 indication, bit 2 low-layer SSM and C-TEID; scapy writes the byte back",
          "tshark 4.4: the bits have a meaning since; that they are ignored is the Rust's")
 def o_byte1(c):
-    if c.notes.get("byte1") != f"{c.payload[1]:02X}" if len(c.payload) > 1 else True:
+    if len(c.payload) < 2 or c.notes.get("byte1") != f"{c.payload[1]:02X}":
         return None
     named = {"note n19": 1, "note n6": 2, "note ssm_cteid": 4}
-    took = {"note byte1"} | c.kept()
-    return took | {n for n in named if n in c.items and c.payload[1] & named[n]}
+    return {"note byte1"} | c.kept() | {n for n in named if c.payload[1] & named[n]}
 
 
 @differs("O-TAGS", "O", "a number of 24 bits", "tshark: presence bits, VID, DEI and PCP, from the same three bytes",
@@ -410,7 +407,7 @@ LISTS = {"afd", "aurl", "adnp"}
          "tshark: a list has a length of its own (quoted). **What the standard's coder writes is misread here without a word, as the Rust does**")
 def p_lists_other(c):
     if c.peer == "tshark" and c.ours.number == 0 and c.theirs.verdict == "read" and outer_there(c):
-        return (LISTS | LIST_NOTES | {"used"}) & set(c.items)
+        return LISTS | LIST_NOTES | {"used"}
 
 
 @differs("P-LISTS-REFUSED", "P", "refusal inside a list: 4, as a length byte of 80 or above is text here and isn't UTF-8 (or a text isn't); 1, as bytes behind the list are a text's length here",
@@ -420,7 +417,7 @@ def p_lists_refused(c):
         return None
     start = lists_at(c.payload)
     if start is not None and (c.ours.number == 1 or int(c.ours.fields["place"]) >= start):
-        return ({"verdict"} | LIST_NOTES) & set(c.items)
+        return {"verdict"} | LIST_NOTES
 
 
 @differs("P-LISTS-PAST", "P", "as above: other texts, or a refusal", "tshark: a text that runs past the length of its list is read to its own end, without a note",
@@ -466,7 +463,7 @@ def p_utf8(c):
         return None
     start = lists_at(c.payload)
     if start is None or int(c.ours.fields["place"]) < start:
-        return ({"verdict"} | LIST_NOTES) & set(c.items)
+        return {"verdict"} | LIST_NOTES
 
 
 @differs("P-CUT", "P", "refusal 1: a length past the end", "scapy: what is there (tshark: malformed)",
