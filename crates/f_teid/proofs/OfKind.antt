@@ -1,23 +1,22 @@
 -- F-TEID is a kind of fixed fields. No contract cites this file.
 use Prim.Native.Nat.{ℕ, _+_, _≤_, _<_}
 use native.Mathlib.Omega.{arith}
-use mathlib.Core.Path.{_≡_, refl, sym, ap, _∙_}
+use mathlib.Core.Path.{_≡_, refl, ap, _∙_}
 use mathlib.Core.Bool.{Bool, true, false}
-use mathlib.Core.List.{List, [], _∷_, _++_}
+use mathlib.Core.List.{List, [], _∷_}
 use lib.Dec.{lit<}
 use lib.ListN.{length, getD, take, drop}
-use Rattle.answer.specs.declared.Answer.{Answer}
-use Rattle.answer.specs.declared.Answer.the-variants.{Done}
-use Rattle.octets.specs.Octets.{pick, bit, under, flagByte, Bytes, field, put}
-use Rattle.octets.proofs.Laws.{under-le, flags-kept, length-field, take-head, field-split, bytes-take, bytes-drop, bytes-field, number-again, ipv4-bytes, ipv6-bytes}
-use Rattle.kind.specs.Layout.{accepts, refuses, outcome, clear}
+use Rattle.octets.specs.Octets.{pick, bit, under, flagByte, Bytes, field}
+use Rattle.octets.proofs.Laws.{under-le, flags-kept, length-field, take-head, bytes-take, bytes-drop, number-again}
+use Rattle.kind.specs.Layout.{clear}
 use Rattle.kind.specs.Kind.{Reads, Kind}
 use Rattle.kind.specs.Demand3.{Demand3, PrefixFree}
 use Rattle.kind.proofs.Demand3.{demand3, prefix-free}
-use Rattle.kind.proofs.Fixed.{Fixed, accepted-whole, cut-length, kind-of, local-of}
-use Rattle.kind.proofs.Laws.{end, whole, Alike, alike-field, alike-bit}
+use Rattle.kind.proofs.Fixed.{Follows, Fixed, accepted-whole, cut-length, kind-of, local-of}
+use Rattle.kind.proofs.Laws.{end, Alike, alike-field, alike-bit}
+use Rattle.kind.proofs.Endpoint.{form-again}
 use Rattle.f_teid.specs.Fteid.{Value, meaning, tail, wire, rule, layout, kept, chosen, concrete, recordOf, refused, found, read, reader}
-use Rattle.f_teid.proofs.Laws.{end4, end6, chosen-ends, concrete-ends}
+use Rattle.f_teid.proofs.Laws.{end4, chosen-ends, concrete-ends}
 
 -- payloads that are alike have the same four flags
 module _ (s t : List ℕ) (a : Alike kept (end layout s) s t) where
@@ -87,23 +86,7 @@ module _ (s : List ℕ) (b : Bytes s) (h : end layout s ≤ length s) where
   flat-concrete ch =
       let f = getD s 0 0 in
       let e = concrete-ends s ch in
-      let u4 = under (bit 0 f) 4 in
-      let u6 = under (bit 1 f) 16 in
-      let a4 : List ℕ = field s 5 u4 in
-      let a6 : List ℕ = field s (end4 s) u6 in
-      let sum : end6 s ≡ 1 + (4 + (u4 + u6)) = omega arith in
-      rw (
-        flags-kept 4 f,
-        e,
-        sum,
-        take-head (4 + (u4 + u6)) s (omega arith),
-        field-split 1 4 (u4 + u6) s,
-        field-split 5 u4 u6 s,
-        ch,
-        bytes-field 1 4 s b (omega arith),
-        ipv4-bytes (bit 0 f) a4 (length-field 5 u4 s (omega arith)),
-        ipv6-bytes (bit 1 f) a6 (length-field (end4 s) u6 s (omega arith)),
-      )
+      rw (e, ← form-again s 4 (bit 0 f) (bit 1 f) b (omega arith), flags-kept 4 f, ch)
 
   pub flat-again : flat (meaning (recordOf s)) ≡ clear kept (take (end layout s) s)
   flat-again = go (bit 2 (getD s 0 0)) refl
@@ -123,13 +106,9 @@ lawful s e = go (bit 2 (getD s 0 0)) (bit 3 (getD s 0 0)) refl refl
     go false true ch chid = let z : _≡_ {A = ℕ} 4 0 = unfold under in rw (ch, chid) at e in absurd (omega arith)
 
 -- the reader follows the layout
-pub on-accepts : (s : List ℕ) (n : ℕ) → outcome layout s ≡ accepts n → (read s .answer ≡ Done) × (read s .used ≡ n) × (meaning (read s .«record») ≡ meaning (recordOf s))
-unfolding read found
-on-accepts s n q = (rw q, rw q, rw q)
-
-pub on-refuses : (s : List ℕ) (a : Answer) → outcome layout s ≡ refuses a → read s .answer ≡ a
+pub follows : Follows reader layout (λ s. meaning (recordOf s))
 unfolding read found refused
-on-refuses s a q = rw q
+follows = record { on-accepts = λ s n q. (rw q, rw q, rw q); on-refuses = λ s a q. rw q }
 
 abbrev pub fixed : Fixed
 fixed =
@@ -140,8 +119,7 @@ fixed =
       kept = kept;
       valueOf = λ s. meaning (recordOf s);
       wire = wire;
-      on-accepts = on-accepts;
-      on-refuses = on-refuses;
+      follows = follows;
       same-rule = same-rule;
       same-end = same-end;
       same-value = λ s t a. ap meaning (same-record s t a);

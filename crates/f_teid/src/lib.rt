@@ -7,7 +7,7 @@ use octets::MaybeU8;
 use types::MaybeTeid;
 use types::Teid;
 ghost use mathlib.Core.Path.{_≡_};
-ghost use mathlib.Core.Bool.{true, false, _&&_, _||_};
+ghost use mathlib.Core.Bool.{true, false};
 ghost use Prim.Native.Nat.{_≤_, _<_};
 ghost use lib.ListN.{length, getD};
 ghost use Rattle.octets.specs.Octets.{pick, bit, put};
@@ -47,19 +47,6 @@ pub struct FteidBuilder {
 pub struct FteidBuilt {
     pub answer: Answer,
     pub record: Fteid,
-}
-
-// Tests without branches.
-fn both(a: bool, b: bool) -> bool
-    ensures { λ r. ⌜ r ≡ a && b ⌝ }
-{
-    if a { b } else { false }
-}
-
-fn either(a: bool, b: bool) -> bool
-    ensures { λ r. ⌜ r ≡ a || b ⌝ }
-{
-    if a { true } else { b }
 }
 
 // A byte where a flag is set, 0 where it isn't.
@@ -424,21 +411,21 @@ fn of_choice(v4: bool, v6: bool) -> Fteid
 fn broken(b: FteidBuilder) -> u8
     ensures { λ r. ⌜ r ≡ broken b ⌝ }
 {
-    let address = either(b.ipv4_address.given, b.ipv6_address.given);
-    let choice = either(b.choose_ipv4, b.choose_ipv6);
-    if both(b.ipv4_address.given, b.choose_ipv4) {
+    let address = octets::either(b.ipv4_address.given, b.ipv6_address.given);
+    let choice = octets::either(b.choose_ipv4, b.choose_ipv6);
+    if octets::both(b.ipv4_address.given, b.choose_ipv4) {
         return 1;
     }
-    if both(b.ipv6_address.given, b.choose_ipv6) {
+    if octets::both(b.ipv6_address.given, b.choose_ipv6) {
         return 2;
     }
-    if !either(address, choice) {
+    if !octets::either(address, choice) {
         return 3;
     }
-    if both(b.choose_id.given, !choice) {
+    if octets::both(b.choose_id.given, !choice) {
         return 4;
     }
-    if !either(b.teid.given, choice) {
+    if !octets::either(b.teid.given, choice) {
         return 5;
     }
     0
@@ -558,13 +545,13 @@ impl FteidBuilder {
         }
         let ipv4_address = self.ipv4_address;
         let ipv6_address = self.ipv6_address;
-        let ch = either(self.choose_ipv4, self.choose_ipv6);
+        let ch = octets::either(self.choose_ipv4, self.choose_ipv6);
         let teid = teid_unless(ch, self.teid.value);
         FteidBuilt {
             answer: Answer::Done,
             record: Fteid {
-                v4: either(ipv4_address.given, self.choose_ipv4),
-                v6: either(ipv6_address.given, self.choose_ipv6),
+                v4: octets::either(ipv4_address.given, self.choose_ipv4),
+                v6: octets::either(ipv6_address.given, self.choose_ipv6),
                 ch,
                 chid: self.choose_id.given,
                 teid,

@@ -1,22 +1,23 @@
 -- F-SEID is a kind of fixed fields. No contract cites this file.
-use Prim.Native.Nat.{ℕ, _+_, _%_, _≤_}
+use Prim.Native.Nat.{ℕ, _+_, _≤_}
 use native.Mathlib.Omega.{arith}
-use mathlib.Core.Path.{_≡_, refl, sym, ap, _∙_}
-use mathlib.Core.List.{List, _∷_, _++_, append-assoc}
-use lib.ListN.{length, getD, take, drop}
-use lib.Seq.{take-add}
-use Rattle.answer.specs.declared.Answer.{Answer}
-use Rattle.answer.specs.declared.Answer.the-variants.{Done}
-use Rattle.octets.specs.Octets.{bit, under, Bytes, field, put}
-use Rattle.octets.proofs.Laws.{under-le, flags-kept, length-field, take-first, bytes-field, ipv4-bytes, ipv6-bytes}
-use Rattle.kind.specs.Layout.{accepts, refuses, outcome, clear}
+use mathlib.Core.Path.{_≡_, refl, ap}
+use mathlib.Core.List.{List}
+use lib.ListN.{length, getD, take}
+use Rattle.octets.specs.Octets.{bit, under, Bytes}
+use Rattle.octets.proofs.Laws.{under-le, flags-kept}
+use Rattle.kind.specs.Layout.{clear}
 use Rattle.kind.specs.Kind.{Reads, Kind}
 use Rattle.kind.specs.Demand3.{Demand3, PrefixFree}
 use Rattle.kind.proofs.Demand3.{demand3, prefix-free}
-use Rattle.kind.proofs.Fixed.{Fixed, accepted-whole, cut-length, kind-of, local-of}
+use Rattle.kind.proofs.Fixed.{Follows, Fixed, accepted-whole, cut-length, kind-of, local-of}
 use Rattle.kind.proofs.Laws.{end, Alike, alike-field, alike-bit}
+use Rattle.kind.proofs.Endpoint.{form-again}
 use Rattle.fseid.specs.Fseid.{Value, meaning, wire, layout, kept, recordOf, refused, found, read, reader}
-use Rattle.fseid.proofs.Laws.{end4, end6}
+
+-- where IPv4 ends
+abbrev end4 : List ℕ → ℕ
+end4 s = 9 + under (bit 1 (getD s 0 0)) 4
 
 -- payloads that are alike have the same two flags
 module _ (s t : List ℕ) (a : Alike kept (end layout s) s t) where
@@ -44,29 +45,13 @@ pub rewritten : (s : List ℕ) → Bytes s → end layout s ≤ length s → wir
 unfolding wire meaning recordOf clear
 rewritten s b h =
     let f = getD s 0 0 in
-    let a4 : List ℕ = field s 9 (under (bit 1 f) 4) in
-    let a6 : List ℕ = field s (end4 s) (under (bit 0 f) 16) in
-    let cut : take (end6 s) s ≡ f ∷ field s 1 8 ++ a4 ++ a6 =
-    take-add (end4 s) (under (bit 0 f) 16) s ∙ ap (λ (l : List ℕ). l ++ a6) (take-add 9 (under (bit 1 f) 4) s ∙ ap (λ (l : List ℕ). l ++ a4) (take-first 8 s (omega arith))) in
-    let same : end layout s ≡ end6 s = omega arith in
-    rw (
-      same,
-      cut,
-      flags-kept 2 f,
-      bytes-field 1 8 s b (omega arith),
-      ipv4-bytes (bit 1 f) a4 (length-field 9 (under (bit 1 f) 4) s (omega arith)),
-      ipv6-bytes (bit 0 f) a6 (length-field (end4 s) (under (bit 0 f) 16) s (omega arith)),
-    )
-    (ap (λ (l : List ℕ). f % 4 ∷ l) (sym (append-assoc (field s 1 8) a4 a6)))
+    let sum : end layout s ≡ end4 s + under (bit 0 f) 16 = omega arith in
+    rw (sum, ← form-again s 8 (bit 1 f) (bit 0 f) b (omega arith), flags-kept 2 f)
 
 -- the reader follows the layout
-pub on-accepts : (s : List ℕ) (n : ℕ) → outcome layout s ≡ accepts n → (read s .answer ≡ Done) × (read s .used ≡ n) × (meaning (read s .«record») ≡ meaning (recordOf s))
-unfolding read found
-on-accepts s n q = (rw q, rw q, rw q)
-
-pub on-refuses : (s : List ℕ) (a : Answer) → outcome layout s ≡ refuses a → read s .answer ≡ a
+pub follows : Follows reader layout (λ s. meaning (recordOf s))
 unfolding read found refused
-on-refuses s a q = rw q
+follows = record { on-accepts = λ s n q. (rw q, rw q, rw q); on-refuses = λ s a q. rw q }
 
 abbrev pub fixed : Fixed
 fixed =
@@ -77,8 +62,7 @@ fixed =
       kept = kept;
       valueOf = λ s. meaning (recordOf s);
       wire = wire;
-      on-accepts = on-accepts;
-      on-refuses = on-refuses;
+      follows = follows;
       same-rule = λ s t a. refl;
       same-end = same-end;
       same-value = λ s t a. ap meaning (same-record s t a);

@@ -13,7 +13,12 @@ use Rattle.kind.specs.Layout.{Layout, Outcome, accepts, refuses, outcome
 use Rattle.kind.specs.Kind.{Reader, Reads, Kind, Local}
 use Rattle.kind.proofs.Laws.{end, Whole, whole, accepted, never-done, length-clear, bytes-clear, clear-clear, Alike}
 
--- kept: how many low bits of each of the first bytes count. valueOf: what an accepted payload means.
+-- a reader follows a layout: valueOf is what an accepted payload means
+pub record Follows {Value : Type 0} (reader : Reader Value) (layout : Layout) (valueOf : List ℕ → Value) : Type 0 where
+  pub on-accepts : (s : List ℕ) (n : ℕ) → outcome layout s ≡ accepts n → (reader .answer s ≡ Done) × (reader .used s ≡ n) × (reader .value s ≡ valueOf s)
+  pub on-refuses : (s : List ℕ) (a : Answer) → outcome layout s ≡ refuses a → reader .answer s ≡ a
+
+-- kept: how many low bits of each of the first bytes count
 pub record Fixed : Type 1 where
   pub Value : Type 0
   pub reader : Reader Value
@@ -21,9 +26,7 @@ pub record Fixed : Type 1 where
   pub kept : List ℕ
   pub valueOf : List ℕ → Value
   pub wire : Value → List ℕ
-  -- the reader follows the layout
-  pub on-accepts : (s : List ℕ) (n : ℕ) → outcome layout s ≡ accepts n → (reader .answer s ≡ Done) × (reader .used s ≡ n) × (reader .value s ≡ valueOf s)
-  pub on-refuses : (s : List ℕ) (a : Answer) → outcome layout s ≡ refuses a → reader .answer s ≡ a
+  pub follows : Follows reader layout valueOf
   -- payloads that are alike as far as the fields go have the same rule, fields and value
   pub same-rule : (s t : List ℕ) → Alike kept (end layout s) s t → layout .rule (getD t 0 0) ≡ layout .rule (getD s 0 0)
   pub same-end : (s t : List ℕ) → Alike kept (end layout s) s t → end layout t ≡ end layout s
@@ -37,14 +40,14 @@ module _ (f : Fixed) where
   accepted-whole {s} {v} {n} r = go (outcome (f .layout) s) refl
     where
       go : (o : Outcome) → outcome (f .layout) s ≡ o → Whole (f .layout) s n
-      go (accepts m) q = rw (sym (f .on-accepts s m q .1) ∙ r .used) at (accepted (f .layout) s m q)
-      go (refuses a) q = absurd (never-done (f .layout) s (q ∙ ap refuses (sym (f .on-refuses s a q) ∙ r .done)))
+      go (accepts m) q = rw (sym (f .follows .on-accepts s m q .1) ∙ r .used) at (accepted (f .layout) s m q)
+      go (refuses a) q = absurd (never-done (f .layout) s (q ∙ ap refuses (sym (f .follows .on-refuses s a q) ∙ r .done)))
 
   -- and what it means
   means : {s : List ℕ} {v : f .Value} {n : ℕ} → Reads (f .reader) s v n → f .valueOf s ≡ v
   means {s} r =
       let w = accepted-whole r in
-      sym (f .on-accepts s (end (f .layout) s) (whole (f .layout) s (w .fits) (w .free) (omega arith)) .2) ∙ r .value
+      sym (f .follows .on-accepts s (end (f .layout) s) (whole (f .layout) s (w .fits) (w .free) (omega arith)) .2) ∙ r .value
 
   -- a payload that is alike as far as the fields go is read alike
   carry : {s : List ℕ} {v : f .Value} {n : ℕ} (t : List ℕ) → Bytes t → length t ≤ 65535 → Alike (f .kept) n s t → Reads (f .reader) s v n → Reads (f .reader) t v n
@@ -53,7 +56,7 @@ module _ (f : Fixed) where
       let a′ : Alike (f .kept) (end (f .layout) s) s t = rw (w .ends) at a in
       let e : end (f .layout) t ≡ n = f .same-end s t a′ ∙ sym (w .ends) in
       let o = whole (f .layout) t h (f .same-rule s t a′ ∙ w .free) (omega (arith, a .right)) in
-      let (done, used, value) = f .on-accepts t (end (f .layout) t) o in
+      let (done, used, value) = f .follows .on-accepts t (end (f .layout) t) o in
       record { bytes = b; done = done; value = value ∙ f .same-value s t a′ ∙ means r; used = used ∙ e }
 
   pub cut : {s : List ℕ} {v : f .Value} {n : ℕ} → Reads (f .reader) s v n → f .wire v ≡ clear (f .kept) (take n s)

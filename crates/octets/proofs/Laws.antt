@@ -52,6 +52,13 @@ flags-from j (suc k) b =
 pub flags-kept : (k b : ℕ) → flagByte (bitsFrom 0 k b) ≡ b % 2 ^ k
 flags-kept k b = flags-from 0 k b ∙ ap (λ (x : ℕ). x % 2 ^ k) (div-one b)
 
+-- flags that are off behind the others don't count
+pub flags-padded : (fs : List Bool) (k : ℕ) → flagByte (fs ++ replicate k false) ≡ flagByte fs
+unfolding flagByte under
+flags-padded [] zero = refl
+flags-padded [] (suc k) = ap (λ (n : ℕ). 0 + 2 * n) (flags-padded [] k)
+flags-padded (f ∷ fs) k = ap (λ (n : ℕ). under f 1 + 2 * n) (flags-padded fs k)
+
 -- ---- fields
 pub field-take : (at w n : ℕ) (s : List ℕ) → at + w ≤ n → field (take n s) at w ≡ field s at w
 field-take zero w n s h = take-take w n s (omega arith)

@@ -1,7 +1,7 @@
 // Bytes as flags, numbers and addresses, and bytes put into an output. Every call is total: bytes that don't fit aren't put.
 ghost use mathlib.Core.Path.{_≡_};
 ghost use mathlib.Core.List.{_∷_, []};
-ghost use mathlib.Core.Bool.{true};
+ghost use mathlib.Core.Bool.{true, _&&_, _||_};
 ghost use Prim.Native.Nat.{_≤_, _<_, _^_};
 ghost use lib.ListN.{length};
 ghost use lib.Dec.{leb};
@@ -51,6 +51,19 @@ pub fn under(flag: bool, n: usize) -> usize
     ensures { λ r. ⌜ r ≤ n ⌝ }
 {
     if flag { n } else { 0 }
+}
+
+// Two flags joined, in calls of their own, so that the ways through a function don't part there.
+pub fn both(a: bool, b: bool) -> bool
+    ensures { λ r. ⌜ r ≡ a && b ⌝ }
+{
+    a && b
+}
+
+pub fn either(a: bool, b: bool) -> bool
+    ensures { λ r. ⌜ r ≡ a || b ⌝ }
+{
+    a || b
 }
 
 // A byte of eight flags, bit 0 first.

@@ -1,57 +1,23 @@
--- What `read` answers, case by case. No contract cites this file.
-use Prim.Native.Nat.{ℕ, _+_, _≤_, _<_}
+-- Where the fields end, what is written under a flag, and what is written of what was read. No contract cites this file.
+use Prim.Native.Nat.{ℕ, _<_}
 use native.Mathlib.Omega.{arith}
 use mathlib.Core.Path.{_≡_, refl, ap}
 use mathlib.Core.Bool.{Bool, true, false, _&&_}
 use mathlib.Core.List.{List, [], _∷_}
 use mathlib.Core.Option.{Option, none, some}
-use lib.ListN.{length, getD, take, drop}
-use Rattle.answer.specs.declared.Answer.the-variants.{Done, Short, TooLong}
+use lib.ListN.{length, getD}
 use Rattle.types.specs.declared.MaybeTeid.{MaybeTeid}
 use Rattle.octets.specs.declared.MaybeIpv4.{MaybeIpv4}
 use Rattle.octets.specs.declared.MaybeIpv6.{MaybeIpv6}
 use Rattle.octets.specs.declared.MaybeU16.{MaybeU16}
 use Rattle.octets.specs.Octets.{under, presence, bytesOf, numberIf}
-use Rattle.kind.specs.Layout.{Wanted, wanted}
-use Rattle.kind.proofs.Laws as walks
-use Rattle.kind.proofs.Laws.{total}
-use Rattle.kind.proofs.Rows.{stops}
 use Rattle.outer_header_creation.specs.declared.OuterHeaderCreation.{OuterHeaderCreation}
 use Rattle.outer_header_creation.specs.declared.Ends.{Ends}
-use Rattle.outer_header_creation.specs.OuterHeaderCreation.{Flags, flagsOf, asked, fieldsOf, layout, endsOf, sentIf, orZero, untagged, recordOf, refused, found, read}
+use Rattle.outer_header_creation.specs.OuterHeaderCreation.{Flags, flagsOf, asked, endsOf, sentIf, orZero, untagged}
 
--- the fields that a payload's first byte asks for, and where they end
-abbrev pub fields : List ℕ → List Wanted
-fields s = fieldsOf (asked (flagsOf (getD s 0 0)))
-
+-- where the fields that a payload's first byte asks for end
 abbrev pub ends : List ℕ → Ends
 ends s = endsOf (asked (flagsOf (getD s 0 0)))
-
-module _ (s : List ℕ) where
-  pub too-long : 65535 < length s → read s ≡ refused (TooLong (length s))
-  unfolding read found
-  too-long h = rw (walks.too-long layout s h)
-
-  module _ (fits : length s ≤ 65535) where
-    pub short-whole : length s < 2 → read s ≡ refused (Short 0 2 (length s))
-    unfolding read found
-    short-whole h = rw (walks.too-short layout s fits h)
-
-    -- the fields before the k-th are there, and that one, which ends at e, isn't
-    pub short-field : (k number : ℕ) (sent : Bool) (width : ℕ) (after : List Wanted) (e : ℕ)
-        → drop k (fields s) ≡ wanted number sent width ∷ after
-        → e ≡ 2 + total (take k (fields s)) + under sent width
-        → 2 + total (take k (fields s)) ≤ length s
-        → length s < e
-        → read s ≡ refused (Short number e (length s))
-    unfolding read found
-    short-field k number sent width after e q p h g = rw (stops layout s k number sent width after e q refl fits p h g)
-
-    pub whole : ends s .stag ≤ length s → read s ≡ record { answer = Done; used = ends s .stag; «record» = recordOf s }
-    unfolding read found endsOf
-    whole h =
-        let e : walks.end layout s ≡ ends s .stag = omega arith in
-        rw (walks.whole layout s fits refl (omega arith), e)
 
 -- ---- what is written under a flag
 

@@ -6,15 +6,13 @@ use mathlib.Core.Path.{_≡_, refl, ap, _∙_}
 use mathlib.Core.Bool.{Bool}
 use mathlib.Core.List.{List, [], _∷_, _++_, flatten}
 use lib.ListN.{length, getD, take, drop}
-use Rattle.answer.specs.declared.Answer.{Answer}
-use Rattle.answer.specs.declared.Answer.the-variants.{Done}
-use Rattle.octets.specs.Octets.{bit, under, Bytes, field, bytesOf, numberIf, u16Of, u32Of, u16Meaning, u32Meaning, put}
+use Rattle.octets.specs.Octets.{bit, under, Bytes, field, bytesOf, numberIf, u16Of, u32Of, u16Meaning, u32Meaning}
 use Rattle.octets.proofs.Laws.{under-le, flags-kept, length-field, bytes-take, bytes-drop, ipv4-bytes, ipv6-bytes, u16-bytes, u32-bytes}
-use Rattle.kind.specs.Layout.{accepts, refuses, outcome, clear}
+use Rattle.kind.specs.Layout.{clear}
 use Rattle.kind.specs.Kind.{Reads, Kind}
 use Rattle.kind.specs.Demand3.{Demand3, PrefixFree}
 use Rattle.kind.proofs.Demand3.{demand3, prefix-free}
-use Rattle.kind.proofs.Fixed.{Fixed, accepted-whole, cut-length, kind-of, local-of}
+use Rattle.kind.proofs.Fixed.{Follows, Fixed, accepted-whole, cut-length, kind-of, local-of}
 use Rattle.kind.proofs.Laws.{total, end, Alike, alike-field, alike-bit}
 use Rattle.kind.proofs.Rows.{take-pieces}
 use Rattle.outer_header_creation.specs.declared.Sent.{Sent}
@@ -104,13 +102,9 @@ rewritten s b h =
     )
 
 -- the reader follows the layout
-pub on-accepts : (s : List ℕ) (n : ℕ) → outcome layout s ≡ accepts n → (read s .answer ≡ Done) × (read s .used ≡ n) × (meaning (read s .«record») ≡ meaning (recordOf s))
-unfolding read found
-on-accepts s n q = (rw q, rw q, rw q)
-
-pub on-refuses : (s : List ℕ) (a : Answer) → outcome layout s ≡ refuses a → read s .answer ≡ a
+pub follows : Follows reader layout (λ s. meaning (recordOf s))
 unfolding read found refused
-on-refuses s a q = rw q
+follows = record { on-accepts = λ s n q. (rw q, rw q, rw q); on-refuses = λ s a q. rw q }
 
 abbrev pub fixed : Fixed
 fixed =
@@ -121,8 +115,7 @@ fixed =
       kept = kept;
       valueOf = λ s. meaning (recordOf s);
       wire = wire;
-      on-accepts = on-accepts;
-      on-refuses = on-refuses;
+      follows = follows;
       same-rule = λ s t a. refl;
       same-end = same-end;
       same-value = λ s t a. ap meaning (same-record s t a);

@@ -8,7 +8,6 @@ use octets::MaybeU32;
 use types::MaybeTeid;
 use types::Teid;
 ghost use mathlib.Core.Path.{_≡_};
-ghost use mathlib.Core.Bool.{_&&_, _||_};
 ghost use lib.ListN.{length};
 ghost use Rattle.octets.specs.Octets.{put};
 ghost use Rattle.answer.specs.declared.Answer.the-variants.{Short};
@@ -62,19 +61,6 @@ struct Ends {
     port: usize,
     ctag: usize,
     stag: usize,
-}
-
-// Flags are joined in calls of their own, so that the ways through a reader or a writer don't part there.
-fn both(a: bool, b: bool) -> bool
-    ensures { λ r. ⌜ r ≡ a && b ⌝ }
-{
-    a && b
-}
-
-fn either(a: bool, b: bool) -> bool
-    ensures { λ r. ⌜ r ≡ a || b ⌝ }
-{
-    a || b
 }
 
 // The ends of the fields in a row, behind the two bytes that come first.
@@ -220,10 +206,10 @@ impl OuterHeaderCreationFlags {
         ensures { λ r. ⌜ r ≡ asked self ⌝ }
     {
         Sent {
-            teid: either(self.gtpu_udp_ipv4, self.gtpu_udp_ipv6),
-            ipv4: either(either(self.gtpu_udp_ipv4, self.udp_ipv4), self.ipv4),
-            ipv6: either(either(self.gtpu_udp_ipv6, self.udp_ipv6), self.ipv6),
-            port: either(self.udp_ipv4, self.udp_ipv6),
+            teid: octets::either(self.gtpu_udp_ipv4, self.gtpu_udp_ipv6),
+            ipv4: octets::either(octets::either(self.gtpu_udp_ipv4, self.udp_ipv4), self.ipv4),
+            ipv6: octets::either(octets::either(self.gtpu_udp_ipv6, self.udp_ipv6), self.ipv6),
+            port: octets::either(self.udp_ipv4, self.udp_ipv6),
             ctag: self.ctag,
             stag: self.stag,
         }
@@ -398,11 +384,11 @@ impl OuterHeaderCreation {
         let asked = description.asked();
         Sent {
             teid: asked.teid,
-            ipv4: both(asked.ipv4, self.ipv4_address.given),
-            ipv6: both(asked.ipv6, self.ipv6_address.given),
+            ipv4: octets::both(asked.ipv4, self.ipv4_address.given),
+            ipv6: octets::both(asked.ipv6, self.ipv6_address.given),
             port: asked.port,
-            ctag: both(asked.ctag, self.ctag.given),
-            stag: both(asked.stag, self.stag.given),
+            ctag: octets::both(asked.ctag, self.ctag.given),
+            stag: octets::both(asked.stag, self.stag.given),
         }
     }
 

@@ -1,24 +1,31 @@
 -- UE IP Address is a kind of fixed fields. No contract cites this file.
 use Prim.Native.Nat.{ℕ, _+_, _≤_, _<_}
 use native.Mathlib.Omega.{arith}
-use mathlib.Core.Path.{_≡_, ap, _∙_}
+use mathlib.Core.Path.{_≡_, ap}
 use mathlib.Core.Bool.{Bool, true, false, not, _&&_, _||_}
-use mathlib.Core.List.{List, _∷_, _++_, append-assoc}
+use mathlib.Core.List.{List, flatten, append-nil}
 use lib.Dec.{lit<}
 use lib.ListN.{length, getD, take}
-use lib.Seq.{take-add}
-use Rattle.answer.specs.declared.Answer.{Answer}
-use Rattle.answer.specs.declared.Answer.the-variants.{Done}
-use Rattle.octets.specs.Octets.{pick, bit, under, Bytes, field, put}
+use Rattle.octets.specs.Octets.{pick, bit, under, Bytes, field}
 use Rattle.octets.proofs.Laws.{under-le, flags-kept, length-field, take-first, bytes-take, bytes-drop, ipv4-bytes, ipv6-bytes, u8-bytes}
-use Rattle.kind.specs.Layout.{accepts, refuses, outcome, clear}
+use Rattle.kind.specs.Layout.{clear}
 use Rattle.kind.specs.Kind.{Reads, Kind}
 use Rattle.kind.specs.Demand3.{Demand3, PrefixFree}
 use Rattle.kind.proofs.Demand3.{demand3, prefix-free}
-use Rattle.kind.proofs.Fixed.{Fixed, accepted-whole, cut-length, kind-of, local-of}
+use Rattle.kind.proofs.Fixed.{Follows, Fixed, accepted-whole, cut-length, kind-of, local-of}
 use Rattle.kind.proofs.Laws.{end, Alike, alike-field, alike-bit}
+use Rattle.kind.proofs.Rows.{take-pieces}
 use Rattle.ue_ip_address.specs.UeIpAddress.{Value, meaning, wire, broken, rule, layout, kept, recordOf, refused, found, read, reader}
-use Rattle.ue_ip_address.proofs.Laws.{end4, end6, endBits, endAll}
+
+-- where the fields end
+abbrev end4 : List ℕ → ℕ
+end4 s = 1 + under (bit 1 (getD s 0 0)) 4
+
+abbrev end6 : List ℕ → ℕ
+end6 s = end4 s + under (bit 0 (getD s 0 0)) 16
+
+abbrev endBits : List ℕ → ℕ
+endBits s = end6 s + under (bit 3 (getD s 0 0)) 1
 
 -- payloads that are alike have the same seven flags
 module _ (s t : List ℕ) (a : Alike kept (end layout s) s t) where
@@ -48,47 +55,29 @@ module _ (s t : List ℕ) (a : Alike kept (end layout s) s t) where
         alike-field a (endBits s) (under (bit 6 (getD s 0 0)) 1) (omega arith) (omega arith),
       )
 
--- a beginning and the field behind it are a longer beginning
-take-more : (s : List ℕ) (n w : ℕ) (l : List ℕ) → take n s ≡ l → take (n + w) s ≡ l ++ field s n w
-take-more s n w l e = take-add n w s ∙ ap (λ (k : List ℕ). k ++ field s n w) e
-
 pub rewritten : (s : List ℕ) → Bytes s → end layout s ≤ length s → wire (meaning (recordOf s)) ≡ clear kept (take (end layout s) s)
-unfolding wire meaning recordOf clear
+unfolding wire meaning recordOf clear flatten
 rewritten s b h =
     let f = getD s 0 0 in
     let u4 = under (bit 1 f) 4 in
     let u6 = under (bit 0 f) 16 in
     let ub = under (bit 3 f) 1 in
     let up = under (bit 6 f) 1 in
-    let a4 : List ℕ = field s 1 u4 in
-    let a6 : List ℕ = field s (end4 s) u6 in
-    let bits : List ℕ = field s (end6 s) ub in
-    let prefix : List ℕ = field s (endBits s) up in
-    let cut4 : take (end4 s) s ≡ f ∷ a4 = take-more s 1 u4 _ (take-first 0 s (omega arith)) in
-    let cut6 : take (end6 s) s ≡ f ∷ a4 ++ a6 = take-more s (end4 s) u6 _ cut4 in
-    let cutBits : take (endBits s) s ≡ f ∷ a4 ++ a6 ++ bits = take-more s (end6 s) ub _ cut6 in
-    let cut : take (endAll s) s ≡ f ∷ a4 ++ a6 ++ bits ++ prefix = take-more s (endBits s) up _ cutBits in
-    let same : end layout s ≡ endAll s = omega arith in
     rw (
-      same,
-      cut,
+      take-pieces 1 (layout .fields f) s,
+      take-first 0 s (omega arith),
+      append-nil,
       flags-kept 7 f,
-      ipv4-bytes (bit 1 f) a4 (length-field 1 u4 s (omega arith)),
-      ipv6-bytes (bit 0 f) a6 (length-field (end4 s) u6 s (omega arith)),
-      u8-bytes (bit 3 f) 1 bits (bytes-take ub _ (bytes-drop (end6 s) s b)) (lit< tt) (length-field (end6 s) ub s (omega arith)) (omega arith),
-      u8-bytes (bit 6 f) 1 prefix (bytes-take up _ (bytes-drop (endBits s) s b)) (lit< tt) (length-field (endBits s) up s (omega arith)) (omega arith),
-      append-assoc (a4 ++ a6) bits prefix,
-      append-assoc a4 a6 (bits ++ prefix),
+      ipv4-bytes (bit 1 f) (field s 1 u4) (length-field 1 u4 s (omega arith)),
+      ipv6-bytes (bit 0 f) (field s (end4 s) u6) (length-field (end4 s) u6 s (omega arith)),
+      u8-bytes (bit 3 f) 1 (field s (end6 s) ub) (bytes-take ub _ (bytes-drop (end6 s) s b)) (lit< tt) (length-field (end6 s) ub s (omega arith)) (omega arith),
+      u8-bytes (bit 6 f) 1 (field s (endBits s) up) (bytes-take up _ (bytes-drop (endBits s) s b)) (lit< tt) (length-field (endBits s) up s (omega arith)) (omega arith),
     )
 
 -- the reader follows the layout
-pub on-accepts : (s : List ℕ) (n : ℕ) → outcome layout s ≡ accepts n → (read s .answer ≡ Done) × (read s .used ≡ n) × (meaning (read s .«record») ≡ meaning (recordOf s))
-unfolding read found
-on-accepts s n q = (rw q, rw q, rw q)
-
-pub on-refuses : (s : List ℕ) (a : Answer) → outcome layout s ≡ refuses a → read s .answer ≡ a
+pub follows : Follows reader layout (λ s. meaning (recordOf s))
 unfolding read found refused
-on-refuses s a q = rw q
+follows = record { on-accepts = λ s n q. (rw q, rw q, rw q); on-refuses = λ s a q. rw q }
 
 abbrev pub fixed : Fixed
 fixed =
@@ -99,8 +88,7 @@ fixed =
       kept = kept;
       valueOf = λ s. meaning (recordOf s);
       wire = wire;
-      on-accepts = on-accepts;
-      on-refuses = on-refuses;
+      follows = follows;
       same-rule = same-rule;
       same-end = same-end;
       same-value = λ s t a. ap meaning (same-record s t a);

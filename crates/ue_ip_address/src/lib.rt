@@ -5,7 +5,6 @@ use octets::MaybeIpv4;
 use octets::MaybeIpv6;
 use octets::MaybeU8;
 ghost use mathlib.Core.Path.{_≡_};
-ghost use mathlib.Core.Bool.{_&&_, _||_};
 ghost use lib.ListN.{length};
 ghost use Rattle.octets.specs.Octets.{put};
 ghost use Rattle.answer.specs.Paper.{written};
@@ -43,29 +42,17 @@ fn refused(answer: Answer) -> UeIpAddressRead
     }
 }
 
-fn both(a: bool, b: bool) -> bool
-    ensures { λ r. ⌜ r ≡ a && b ⌝ }
-{
-    a && b
-}
-
-fn either(a: bool, b: bool) -> bool
-    ensures { λ r. ⌜ r ≡ a || b ⌝ }
-{
-    a || b
-}
-
 // The first rule that flags break, 0 for none.
 fn broken_rule(v4: bool, v6: bool, ipv6d: bool, chv4: bool, chv6: bool, ip6pl: bool) -> u8
     ensures { λ r. ⌜ r ≡ broken v4 v6 ipv6d chv4 chv6 ip6pl ⌝ }
 {
-    if either(both(v4, chv4), both(v6, chv6)) {
+    if octets::either(octets::both(v4, chv4), octets::both(v6, chv6)) {
         return 1;
     }
-    if both(ipv6d, ip6pl) {
+    if octets::both(ipv6d, ip6pl) {
         return 2;
     }
-    if both(either(ipv6d, ip6pl), !either(v6, chv6)) {
+    if octets::both(octets::either(ipv6d, ip6pl), !octets::either(v6, chv6)) {
         return 3;
     }
     0

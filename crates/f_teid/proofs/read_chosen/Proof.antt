@@ -2,18 +2,19 @@
 use Prim.Native.Nat.{ℕ, _+_, _-_, _^_, _≤_, _<_}
 use native.Mathlib.Omega.{arith}
 use native.Mathlib.Nat.{add-sub-cancel-left}
-use mathlib.Core.Path.{_≡_}
+use mathlib.Core.Path.{_≡_, refl, ap}
 use mathlib.Core.Bool.{Bool, true}
-use mathlib.Core.List.{List}
+use mathlib.Core.List.{List, []}
 use lib.Dec.{leb}
 use lib.ListN.{length, getD}
 use borrow.Author.Needs.{needs}
 use Rattle.answer.specs.declared.Answer.the-variants.{Done, Short}
 use Rattle.octets.specs.Octets.{pick, bit, under, field, bigEndian}
 use Rattle.octets.proofs.Laws.{under-le, number-field, number-below}
+use Rattle.kind.proofs.Cases.{stop-field, all-there, width-under}
 use Rattle.f_teid.specs.declared.FteidRead.{FteidRead}
-use Rattle.f_teid.specs.Fteid.{noIpv4, noIpv6, read, refused, chosen}
-use Rattle.f_teid.proofs.Laws.{short-id, whole-chosen}
+use Rattle.f_teid.specs.Fteid.{noIpv4, noIpv6, layout, read, found, refused, chosen}
+use Rattle.f_teid.proofs.Laws.{chosen-ends}
 use Rattle.f_teid.proofs.read_chosen.Statement.{statement}
 use Rattle.f_teid.proofs.read_chosen.Tie as tie
 
@@ -23,17 +24,21 @@ below s chid u x e h = number-below s 1 (1 + u - 1) 1 x (omega (arith, under-le 
 
 -- each return, from what the calls on the way to it handed over
 module _ (s : List ℕ) (chid : Bool) (u : ℕ) (f : length s ≤ 65535) (a : 0 < length s) (ch : bit 2 (getD s 0 0) ≡ true) (d : chid ≡ bit 3 (getD s 0 0)) (e : u ≡ under chid 1) where
+  w : u ≡ under (bit 3 (getD s 0 0)) 1
+  w = width-under s 3 1 chid u d e
+
   stop5 : (r : FteidRead) → length s < 1 + u → r ≡ refused (Short 5 (1 + u) (length s)) → r ≡ read s
-  stop5 r h q = let g : u ≡ under (bit 3 (getD s 0 0)) 1 = rw d at e in rw (short-id s f a ch (rw g at h), ← g) q
+  unfolding read found
+  stop5 r g q = stop-field found layout s r f (rw ch) 0 5 (bit 3 (getD s 0 0)) 1 [] 1 (1 + u) (rw ch) refl (ap (λ (n : ℕ). 1 + n) w) a g q
 
   done : (v4 v6 : Bool) (x : ℕ) → v4 ≡ bit 0 (getD s 0 0) → v6 ≡ bit 1 (getD s 0 0) → 1 + u ≤ length s
       → x ≡ pick (leb (length (field s 1 (1 + u - 1))) 8) (bigEndian (field s 1 (1 + u - 1))) 0
       → record { answer = Done; used = 1 + u; «record» = record { v4 = v4; v6 = v6; ch = true; chid = chid; teid = record { 0 = 0 }; «ipv4_address» = noIpv4; «ipv6_address» = noIpv6; «choose_id» = x } } ≡ read s
-  unfolding chosen
+  unfolding read found chosen
   done v4 v6 x d4 d6 h p =
-      let g : u ≡ under (bit 3 (getD s 0 0)) 1 = rw d at e in
-      let few : u ≤ 8 = omega (arith, under-le (bit 3 (getD s 0 0)) 1) in
-      rw (whole-chosen s f a ch (rw g at h), p, add-sub-cancel-left 1 u, number-field s 1 u few, g, d, d4, d6, ch)
+      let few : u ≤ 8 = omega (arith, under-le (bit 3 (getD s 0 0)) 1, w) in
+      all-there found layout s _ f (rw ch) (1 + u) (omega (arith, w, chosen-ends s ch)) h
+      (rw (p, add-sub-cancel-left 1 u, number-field s 1 u few, w, d, d4, d6, ch))
 
 shared-slice-read-flags : tie.Need-shared-slice-read-flags
 shared-slice-read-flags c = search needs

@@ -2,20 +2,22 @@
 use Prim.Native.Nat.{ℕ, _+_, _-_, _^_, _≤_, _<_}
 use native.Mathlib.Omega.{arith}
 use native.Mathlib.Nat.{add-sub-cancel-left}
-use mathlib.Core.Path.{_≡_}
-use mathlib.Core.Bool.{Bool, false}
-use mathlib.Core.List.{List}
+use mathlib.Core.Path.{_≡_, refl, ap}
+use mathlib.Core.Bool.{Bool, true, false}
+use mathlib.Core.List.{List, [], _∷_}
 use lib.Dec.{leb}
-use lib.ListN.{length, getD}
+use lib.ListN.{length, getD, drop}
 use borrow.Author.Needs.{needs}
 use Rattle.answer.specs.declared.Answer.the-variants.{Done, Short}
 use Rattle.octets.specs.declared.MaybeIpv4.{MaybeIpv4}
 use Rattle.octets.specs.declared.MaybeIpv6.{MaybeIpv6}
 use Rattle.octets.specs.Octets.{pick, bit, under, field, bigEndian, ipv4Of, ipv6Of}
 use Rattle.octets.proofs.Laws.{number-field, number-below}
+use Rattle.kind.specs.Layout.{wanted}
+use Rattle.kind.proofs.Cases.{stop-field, all-there, width-under}
 use Rattle.f_teid.specs.declared.FteidRead.{FteidRead}
-use Rattle.f_teid.specs.Fteid.{read, refused, concrete}
-use Rattle.f_teid.proofs.Laws.{short-teid, short-ipv4, short-ipv6, whole-concrete}
+use Rattle.f_teid.specs.Fteid.{fields, rule, layout, read, found, refused, concrete}
+use Rattle.f_teid.proofs.Laws.{concrete-ends}
 use Rattle.f_teid.proofs.read_concrete.Statement.{statement}
 use Rattle.f_teid.proofs.read_concrete.Tie as tie
 
@@ -25,30 +27,43 @@ below s x h = number-below s 1 4 4 x (omega arith) h
 
 -- each return, from what the calls on the way to it handed over
 module _ (s : List ℕ) (f : length s ≤ 65535) (a : 0 < length s) (ch : bit 2 (getD s 0 0) ≡ false) (chid : bit 3 (getD s 0 0) ≡ false) where
+  free : rule (getD s 0 0) ≡ 0
+  unfolding under
+  free = rw (ch, chid)
+
+  -- the fields without CH: the TEID, which is always there, and the addresses under their flags
+  asked : fields (getD s 0 0) ≡ wanted 0 true 4 ∷ wanted 1 (bit 0 (getD s 0 0)) 4 ∷ wanted 2 (bit 1 (getD s 0 0)) 16 ∷ []
+  asked = rw ch
+
   stop0 : (r : FteidRead) → length s < 5 → r ≡ refused (Short 0 5 (length s)) → r ≡ read s
-  stop0 r h q = rw (short-teid s f a ch chid h) q
+  unfolding read found under
+  stop0 r g q = stop-field found layout s r f free 0 0 true 4 _ 1 5 asked refl refl a g q
 
   module _ (v4 : Bool) (u4 : ℕ) (d4 : v4 ≡ bit 0 (getD s 0 0)) (e4 : u4 ≡ under v4 4) where
+    w4 : u4 ≡ under (bit 0 (getD s 0 0)) 4
+    w4 = width-under s 0 4 v4 u4 d4 e4
+
     stop1 : (r : FteidRead) → 5 ≤ length s → length s < 5 + u4 → r ≡ refused (Short 1 (5 + u4) (length s)) → r ≡ read s
-    stop1 r b h q = let g4 : u4 ≡ under (bit 0 (getD s 0 0)) 4 = rw d4 at e4 in rw (short-ipv4 s f a ch chid b (rw g4 at h), ← g4) q
+    unfolding read found under
+    stop1 r h g q = stop-field found layout s r f free 1 1 _ 4 _ 5 (5 + u4) (ap (drop 1) asked) (rw asked) (ap (λ (u : ℕ). 5 + u) w4) h g q
 
     module _ (v6 : Bool) (u6 : ℕ) (d6 : v6 ≡ bit 1 (getD s 0 0)) (e6 : u6 ≡ under v6 16) where
+      w6 : u6 ≡ under (bit 1 (getD s 0 0)) 16
+      w6 = width-under s 1 16 v6 u6 d6 e6
+
       stop2 : (r : FteidRead) → 5 + u4 ≤ length s → length s < 5 + u4 + u6 → r ≡ refused (Short 2 (5 + u4 + u6) (length s)) → r ≡ read s
-      stop2 r b h q =
-          let g4 : u4 ≡ under (bit 0 (getD s 0 0)) 4 = rw d4 at e4 in
-          let g6 : u6 ≡ under (bit 1 (getD s 0 0)) 16 = rw d6 at e6 in
-          rw (short-ipv6 s f a ch chid (rw g4 at b) (rw (g4, g6) at h), ← g4, ← g6) q
+      unfolding read found under
+      stop2 r h g q = stop-field found layout s r f free 2 2 _ 16 _ (5 + u4) (5 + u4 + u6) (ap (drop 2) asked) (rw asked (omega (arith, w4))) (ap (λ (u : ℕ). 5 + u4 + u) w6) h g q
 
       done : (x : ℕ) (a4 : MaybeIpv4) (a6 : MaybeIpv6) → 5 + u4 + u6 ≤ length s
           → x ≡ pick (leb (length (field s 1 4)) 8) (bigEndian (field s 1 4)) 0
           → a4 ≡ ipv4Of (field s 5 (5 + u4 - 5))
           → a6 ≡ ipv6Of (field s (5 + u4) (5 + u4 + u6 - (5 + u4)))
           → record { answer = Done; used = 5 + u4 + u6; «record» = record { v4 = v4; v6 = v6; ch = false; chid = false; teid = record { 0 = x }; «ipv4_address» = a4; «ipv6_address» = a6; «choose_id» = 0 } } ≡ read s
-      unfolding concrete
+      unfolding read found concrete
       done x a4 a6 h p q r =
-          let g4 : u4 ≡ under (bit 0 (getD s 0 0)) 4 = rw d4 at e4 in
-          let g6 : u6 ≡ under (bit 1 (getD s 0 0)) 16 = rw d6 at e6 in
-          rw (whole-concrete s f a ch chid (rw (g4, g6) at h), p, q, r, number-field s 1 4 (omega arith), add-sub-cancel-left 5 u4, add-sub-cancel-left (5 + u4) u6, g4, g6, d4, d6, ch, chid)
+          all-there found layout s _ f free (5 + u4 + u6) (omega (arith, w4, w6, concrete-ends s ch)) h
+          (rw (p, q, r, number-field s 1 4 (omega arith), add-sub-cancel-left 5 u4, add-sub-cancel-left (5 + u4) u6, w4, w6, d4, d6, ch, chid))
 
 refused-requires : tie.Need-refused-requires
 refused-requires c κs = search needs

@@ -1,30 +1,26 @@
 -- `f_teid::Fteid::unmarshal` meets its contract: the tests that lead to each return.
 use Prim.Native.Nat.{ℕ, _≤_, _<_}
+use native.Mathlib.Omega.{arith}
 use mathlib.Core.Path.{_≡_}
 use mathlib.Core.Bool.{Bool, true, false}
 use mathlib.Core.List.{List}
 use lib.ListN.{length, getD}
 use borrow.Author.Needs.{needs}
-use Rattle.answer.specs.declared.Answer.the-variants.{Short, Flags, TooLong}
-use Rattle.octets.specs.Octets.{bit}
+use Rattle.answer.specs.declared.Answer.the-variants.{Flags}
+use Rattle.octets.specs.Octets.{bit, under}
+use Rattle.kind.proofs.Cases.{stop-long, stop-head, stop-rule}
 use Rattle.f_teid.specs.declared.FteidRead.{FteidRead}
-use Rattle.f_teid.specs.Fteid.{read, refused}
-use Rattle.f_teid.proofs.Laws.{too-long, no-flags, forbidden}
+use Rattle.f_teid.specs.Fteid.{layout, read, found, refused}
 use Rattle.f_teid.proofs.Fteid.unmarshal.Statement.{statement}
 use Rattle.f_teid.proofs.Fteid.unmarshal.Tie as tie
 
--- each return, from what the calls on the way to it handed over
-stop5 : (s : List ℕ) (r : FteidRead) → 65535 < length s → r ≡ refused (TooLong (length s)) → r ≡ read s
-stop5 s r h q = rw (too-long s h) q
-
-stop0 : (s : List ℕ) (r : FteidRead) → length s ≤ 65535 → length s < 1 → r ≡ refused (Short 0 1 (length s)) → r ≡ read s
-stop0 s r f h q = rw (no-flags s f h) q
-
+-- CHID without CH, from what the calls on the way there handed over
 rule4 : (s : List ℕ) (ch chid : Bool) (r : FteidRead) → length s ≤ 65535 → 0 < length s
     → ch ≡ bit 2 (getD s 0 0) → ch ≡ false → chid ≡ bit 3 (getD s 0 0) → chid ≡ true
     → r ≡ refused (Flags (getD s 0 0) 4)
     → r ≡ read s
-rule4 s ch chid r f a d e d′ e′ q = rw (forbidden s f a (rw d at e) (rw d′ at e′)) q
+unfolding read found under
+rule4 s ch chid r f a d e d′ e′ q = stop-rule found layout s r f 4 a (rw (← d, e, ← d′, e′)) (λ z. omega arith) q
 
 -- what a flag that was read says
 flagged : (s : List ℕ) (k : ℕ) (f t : Bool) → f ≡ bit k (getD s 0 0) → f ≡ t → bit k (getD s 0 0) ≡ t
@@ -34,13 +30,15 @@ refused-requires : tie.Need-refused-requires
 refused-requires c κs = search needs
 
 returns : tie.Need-returns
-returns c = search stop5
+unfolding read found
+returns c = search (stop-long found layout)
 
 refused-requires-2 : tie.Need-refused-requires-2
 refused-requires-2 c κs = search needs
 
 returns-2 : tie.Need-returns-2
-returns-2 c = search stop0
+unfolding read found
+returns-2 c = search (stop-head found layout)
 
 shared-slice-read-flags : tie.Need-shared-slice-read-flags
 shared-slice-read-flags c = search needs

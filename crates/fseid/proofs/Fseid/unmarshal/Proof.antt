@@ -2,67 +2,63 @@
 use Prim.Native.Nat.{ℕ, _+_, _-_, _≤_, _<_}
 use native.Mathlib.Omega.{arith}
 use native.Mathlib.Nat.{add-sub-cancel-left}
-use mathlib.Core.Path.{_≡_}
+use mathlib.Core.Path.{_≡_, refl, ap}
 use mathlib.Core.Bool.{Bool}
 use mathlib.Core.List.{List}
 use lib.Dec.{leb}
 use lib.ListN.{length, getD}
 use borrow.Author.Needs.{needs}
-use Rattle.answer.specs.declared.Answer.the-variants.{Done, Short, TooLong}
+use Rattle.answer.specs.declared.Answer.the-variants.{Done, Short}
 use Rattle.octets.specs.declared.MaybeIpv4.{MaybeIpv4}
 use Rattle.octets.specs.declared.MaybeIpv6.{MaybeIpv6}
 use Rattle.octets.specs.Octets.{pick, bit, under, field, bigEndian, ipv4Of, ipv6Of}
 use Rattle.octets.proofs.Laws.{number-field}
+use Rattle.kind.proofs.Cases.{stop-long, stop-head, stop-field, all-there, width-under}
 use Rattle.fseid.specs.declared.FseidRead.{FseidRead}
-use Rattle.fseid.specs.Fseid.{read, refused, recordOf}
-use Rattle.fseid.proofs.Laws.{too-long, short-whole, short-ipv4, short-ipv6, whole}
+use Rattle.fseid.specs.Fseid.{layout, read, found, refused, recordOf}
 use Rattle.fseid.proofs.Fseid.unmarshal.Statement.{statement}
 use Rattle.fseid.proofs.Fseid.unmarshal.Tie as tie
 
--- each return, from what the calls on the way to it handed over
-stop5 : (s : List ℕ) (r : FseidRead) → 65535 < length s → r ≡ refused (TooLong (length s)) → r ≡ read s
-stop5 s r h q = rw (too-long s h) q
+-- each return behind the first two, from what the calls on the way to it handed over
+module _ (s : List ℕ) (f : length s ≤ 65535) (v4 : Bool) (u4 : ℕ) (d4 : v4 ≡ bit 1 (getD s 0 0)) (e4 : u4 ≡ under v4 4) where
+  w4 : u4 ≡ under (bit 1 (getD s 0 0)) 4
+  w4 = width-under s 1 4 v4 u4 d4 e4
 
-stop0 : (s : List ℕ) (r : FseidRead) → length s ≤ 65535 → length s < 9 → r ≡ refused (Short 0 9 (length s)) → r ≡ read s
-stop0 s r f h q = rw (short-whole s f h) q
+  stop1 : (r : FseidRead) → 9 ≤ length s → length s < 9 + u4 → r ≡ refused (Short 1 (9 + u4) (length s)) → r ≡ read s
+  unfolding read found
+  stop1 r h g q = stop-field found layout s r f refl 0 1 _ 4 _ 9 (9 + u4) refl refl (ap (λ (u : ℕ). 9 + u) w4) h g q
 
-stop1 : (s : List ℕ) (v4 : Bool) (u4 : ℕ) (r : FseidRead) → length s ≤ 65535 → 9 ≤ length s
-    → v4 ≡ bit 1 (getD s 0 0)
-    → u4 ≡ under v4 4
-    → length s < 9 + u4
-    → r ≡ refused (Short 1 (9 + u4) (length s))
-    → r ≡ read s
-stop1 s v4 u4 r f a d e h q = let e′ : u4 ≡ under (bit 1 (getD s 0 0)) 4 = rw d at e in rw (short-ipv4 s f a (rw e′ at h), ← e′) q
+  module _ (v6 : Bool) (u6 : ℕ) (d6 : v6 ≡ bit 0 (getD s 0 0)) (e6 : u6 ≡ under v6 16) where
+    w6 : u6 ≡ under (bit 0 (getD s 0 0)) 16
+    w6 = width-under s 0 16 v6 u6 d6 e6
 
-module _ (s : List ℕ) (v4 v6 : Bool) (u4 u6 : ℕ) (f : length s ≤ 65535) (d4 : v4 ≡ bit 1 (getD s 0 0)) (d6 : v6 ≡ bit 0 (getD s 0 0)) (e4 : u4 ≡ under v4 4) (e6 : u6 ≡ under v6 16) where
-  stop2 : (r : FseidRead) → 9 ≤ length s → 9 + u4 ≤ length s → length s < 9 + u4 + u6 → r ≡ refused (Short 2 (9 + u4 + u6) (length s)) → r ≡ read s
-  stop2 r a b h q =
-      let g4 : u4 ≡ under (bit 1 (getD s 0 0)) 4 = rw d4 at e4 in
-      let g6 : u6 ≡ under (bit 0 (getD s 0 0)) 16 = rw d6 at e6 in
-      rw (short-ipv6 s f a (rw g4 at b) (rw (g4, g6) at h), ← g4, ← g6) q
+    stop2 : (r : FseidRead) → 9 + u4 ≤ length s → length s < 9 + u4 + u6 → r ≡ refused (Short 2 (9 + u4 + u6) (length s)) → r ≡ read s
+    unfolding read found
+    stop2 r h g q = stop-field found layout s r f refl 1 2 _ 16 _ (9 + u4) (9 + u4 + u6) refl (omega (arith, w4)) (ap (λ (u : ℕ). 9 + u4 + u) w6) h g q
 
-  done : (x : ℕ) (a4 : MaybeIpv4) (a6 : MaybeIpv6) → 9 + u4 + u6 ≤ length s
-      → x ≡ pick (leb (length (field s 1 8)) 8) (bigEndian (field s 1 8)) 0
-      → a4 ≡ ipv4Of (field s 9 (9 + u4 - 9))
-      → a6 ≡ ipv6Of (field s (9 + u4) (9 + u4 + u6 - (9 + u4)))
-      → record { answer = Done; used = 9 + u4 + u6; «record» = record { v4 = v4; v6 = v6; seid = record { 0 = x }; «ipv4_address» = a4; «ipv6_address» = a6 } } ≡ read s
-  unfolding recordOf
-  done x a4 a6 h p q r =
-      let g4 : u4 ≡ under (bit 1 (getD s 0 0)) 4 = rw d4 at e4 in
-      let g6 : u6 ≡ under (bit 0 (getD s 0 0)) 16 = rw d6 at e6 in
-      rw (whole s f (rw (g4, g6) at h), p, q, r, number-field s 1 8 (omega arith), add-sub-cancel-left 9 u4, add-sub-cancel-left (9 + u4) u6, g4, g6, d4, d6)
+    done : (x : ℕ) (a4 : MaybeIpv4) (a6 : MaybeIpv6) → 9 + u4 + u6 ≤ length s
+        → x ≡ pick (leb (length (field s 1 8)) 8) (bigEndian (field s 1 8)) 0
+        → a4 ≡ ipv4Of (field s 9 (9 + u4 - 9))
+        → a6 ≡ ipv6Of (field s (9 + u4) (9 + u4 + u6 - (9 + u4)))
+        → record { answer = Done; used = 9 + u4 + u6; «record» = record { v4 = v4; v6 = v6; seid = record { 0 = x }; «ipv4_address» = a4; «ipv6_address» = a6 } } ≡ read s
+    unfolding read found recordOf
+    done x a4 a6 h p q r =
+        all-there found layout s _ f refl (9 + u4 + u6) (omega (arith, w4, w6)) h
+        (rw (p, q, r, number-field s 1 8 (omega arith), add-sub-cancel-left 9 u4, add-sub-cancel-left (9 + u4) u6, w4, w6, d4, d6))
 
 refused-requires : tie.Need-refused-requires
 refused-requires c κs = search needs
 
 returns : tie.Need-returns
-returns c = search stop5
+unfolding read found
+returns c = search (stop-long found layout)
 
 refused-requires-2 : tie.Need-refused-requires-2
 refused-requires-2 c κs = search needs
 
 returns-2 : tie.Need-returns-2
-returns-2 c = search stop0
+unfolding read found
+returns-2 c = search (stop-head found layout)
 
 shared-slice-read-flags : tie.Need-shared-slice-read-flags
 shared-slice-read-flags c = search needs

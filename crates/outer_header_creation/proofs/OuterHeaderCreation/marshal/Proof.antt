@@ -1,14 +1,12 @@
 -- `outer_header_creation::OuterHeaderCreation::marshal` meets its contract: eight puts in a row are one put of the written form.
-use Prim.Native.Nat.{ℕ, _≤_, _<_}
+use Prim.Native.Nat.{ℕ}
 use native.Mathlib.Omega.{arith}
 use mathlib.Core.Path.{_≡_, refl, sym, ap, _∙_}
 use mathlib.Core.List.{List, [], _∷_, flatten}
 use lib.ListN.{length, length-append}
-use borrow.Author.Tests.{le-leb, lt-leb}
-use Rattle.answer.specs.declared.Answer.the-variants.{Done, NoRoom}
-use Rattle.answer.specs.Paper.{written}
 use Rattle.octets.specs.Octets.{under, presence, bytesIf, numberIf, put}
-use Rattle.octets.proofs.Laws.{number-length, given-length, put-not, put-nil, Puts, ends, then, put-row}
+use Rattle.octets.proofs.Laws.{number-length, given-length, put-nil, Puts, ends, then}
+use Rattle.kind.proofs.Cases.{no-room, all-put}
 use Rattle.outer_header_creation.specs.declared.Sent.{Sent}
 use Rattle.outer_header_creation.specs.declared.Ends.{Ends}
 use Rattle.outer_header_creation.specs.declared.OuterHeaderCreation.{OuterHeaderCreation}
@@ -93,19 +91,13 @@ module _ (r : OuterHeaderCreation) (teid port : ℕ) (w : Sent) where
         (then _ (e .stag) q8 (omega (arith, number-length (w .stag) 3 (r .stag .value)))
         (ends (sym (put-nil d8 (e .stag)))))))))))
 
+    -- how long the written form is, and that it is put so
     module _ (tq : teid ≡ under (r .teid .given) (r .teid .value .0)) (pq : port ≡ under (r .«port_number» .given) (r .«port_number» .value)) (wq : w ≡ sends r) where
-      -- how long the written form is
       long : length (wire (meaning r)) ≡ e .stag
       long = ap length (sym (whole tq pq wq)) ∙ count
 
-      no-room : length d < e .stag → (record { answer = NoRoom (e .stag); len = 0 } ≡ written (length (wire (meaning r))) (length d)) × (d ≡ put d 0 (wire (meaning r)))
-      no-room h = (rw (long, lt-leb _ _ h), sym (put-not d 0 (wire (meaning r)) (omega (arith, long))))
-
-      done : e .stag ≤ length d → record { answer = Done; len = e .stag } ≡ written (length (wire (meaning r))) (length d)
-      done h = rw (long, le-leb _ _ h)
-
-      stored : (d8 : List ℕ) → e .stag ≤ length d → Puts d 0 (flatten pieces) d8 → d8 ≡ put d 0 (wire (meaning r))
-      stored d8 h p = put-row p (omega (arith, count)) ∙ ap (put d 0) (whole tq pq wq)
+      put-so : (d′ : List ℕ) → Puts d 0 (flatten pieces) d′ → Puts d 0 (wire (meaning r)) d′
+      put-so d′ p = rw (whole tq pq wq) at p
 
 -- the arrays are as long as their types say
 lengths : (c : tie.Start) → (length (c .args .t1 .«ipv4_address» .octets) ≡ 4) × (length (c .args .t1 .«ipv6_address» .octets) ≡ 16)
@@ -168,7 +160,7 @@ returns c =
     let port = sent .before .before in
     let teid = port .before in
     let (l4, l6) = lengths (teid .before .before) in
-    no-room _ _ _ _ _ _ (ends .ends-of .ensures .0) l4 l6 (teid .under .ensures .0) (port .under2 .ensures .0) (sent .sends .ensures) (c .if1 .taken)
+    no-room _ _ _ (long _ _ _ _ (teid .before .before .args .out .now) _ (ends .ends-of .ensures .0) l4 l6 (teid .under .ensures .0) (port .under2 .ensures .0) (sent .sends .ensures)) (c .if1 .taken)
 
 byte-requires : tie.Need-byte-requires
 byte-requires c κs = search needs
@@ -218,7 +210,7 @@ returns-2 c =
     let eq = ends .ends-of .ensures .0 in
     let fits = room .if1 .left in
     let all = row r _ _ _ d _ eq l4 l6 _ _ _ _ _ _ _ _ _ (put-flags c .before .byte .ensures) (put-flags c .put-byte .ensures) (put-spare c .put-byte2 .ensures) (put-teid c .put-number-given .ensures) (put-ipv4 c .put-given .ensures) (put-ipv6 c .put-given2 .ensures) (put-port c .put-number-given2 .ensures) (put-ctag c .put-number-given3 .ensures) (put-stag c .put-number-given4 .ensures) in
-    (done r _ _ _ d _ eq l4 l6 tq pq wq fits, stored r _ _ _ d _ eq l4 l6 tq pq wq _ fits all)
+    all-put d _ _ (long r _ _ _ d _ eq l4 l6 tq pq wq) _ fits (put-so r _ _ _ d _ eq l4 l6 tq pq wq _ all)
 
 pub marshal-spec : {M : Type 1} → statement M
 marshal-spec =

@@ -1,73 +1,56 @@
 -- `outer_header_creation::OuterHeaderCreation::unmarshal` meets its contract: at each return, the tests that led there and what the calls handed over.
-use Prim.Native.Nat.{ℕ, _+_, _-_, _≤_, _<_}
+use Prim.Native.Nat.{ℕ, _-_, _≤_, _<_}
 use native.Mathlib.Omega.{arith}
 use native.Mathlib.Nat.{add-sub-cancel-left}
 use mathlib.Core.Path.{_≡_, refl, ap, _∙_}
-use mathlib.Core.Bool.{Bool}
-use mathlib.Core.List.{List, _∷_}
-use lib.ListN.{length, getD, take, drop}
-use Rattle.answer.specs.declared.Answer.the-variants.{Done, Short, TooLong}
+use mathlib.Core.List.{List}
+use lib.ListN.{length, getD}
+use Rattle.answer.specs.declared.Answer.the-variants.{Done, Short}
 use Rattle.types.specs.declared.MaybeTeid.{MaybeTeid}
 use Rattle.octets.specs.declared.MaybeIpv4.{MaybeIpv4}
 use Rattle.octets.specs.declared.MaybeIpv6.{MaybeIpv6}
 use Rattle.octets.specs.declared.MaybeU16.{MaybeU16}
 use Rattle.octets.specs.declared.MaybeU32.{MaybeU32}
-use Rattle.octets.specs.Octets.{under, field, ipv4Of, ipv6Of, u16Of, u32Of}
-use Rattle.kind.specs.Layout.{Wanted, wanted}
-use Rattle.kind.proofs.Laws.{total}
+use Rattle.octets.specs.Octets.{field, ipv4Of, ipv6Of, u16Of, u32Of}
+use Rattle.kind.proofs.Cases.{stop-long, stop-head, stop-field, all-there}
 use Rattle.outer_header_creation.specs.declared.Sent.{Sent}
 use Rattle.outer_header_creation.specs.declared.Ends.{Ends}
 use Rattle.outer_header_creation.specs.declared.OuterHeaderCreationRead.{OuterHeaderCreationRead}
-use Rattle.outer_header_creation.specs.OuterHeaderCreation.{Flags, flagsOf, asked, endsOf, teidOf, recordWith, read, refused}
-use Rattle.outer_header_creation.proofs.Laws.{fields, ends, too-long, short-whole, short-field, whole}
+use Rattle.outer_header_creation.specs.OuterHeaderCreation.{Flags, flagsOf, asked, layout, endsOf, teidOf, recordWith, read, found, refused}
+use Rattle.outer_header_creation.proofs.Laws.{ends}
 use borrow.Author.Needs.{needs}
 use Rattle.outer_header_creation.proofs.OuterHeaderCreation.unmarshal.Statement.{statement}
 use Rattle.outer_header_creation.proofs.OuterHeaderCreation.unmarshal.Tie as tie
 
--- each return, from what the calls on the way to it handed over
-stop5 : (s : List ℕ) (r : OuterHeaderCreationRead) → 65535 < length s → r ≡ refused (TooLong (length s)) → r ≡ read s
-stop5 s r h q = rw (too-long s h) q
-
-stop0 : (s : List ℕ) (r : OuterHeaderCreationRead) → length s ≤ 65535 → length s < 2 → r ≡ refused (Short 0 2 (length s)) → r ≡ read s
-stop0 s r f h q = rw (short-whole s f h) q
-
+-- each return behind the first two, from what the calls on the way to it handed over
 module _ (s : List ℕ) (d : Flags) (a : Sent) (e : Ends) (f : length s ≤ 65535) (dq : d ≡ flagsOf (getD s 0 0)) (aq : a ≡ asked d) (eq : e ≡ endsOf a) where
   here : e ≡ ends s
   here = eq ∙ ap endsOf (aq ∙ ap asked dq)
 
-  stop : (k number : ℕ) (sent : Bool) (width : ℕ) (after : List Wanted) (x : ℕ) (r : OuterHeaderCreationRead)
-      → drop k (fields s) ≡ wanted number sent width ∷ after
-      → x ≡ 2 + total (take k (fields s)) + under sent width
-      → 2 + total (take k (fields s)) ≤ length s
-      → length s < x
-      → r ≡ refused (Short number x (length s))
-      → r ≡ read s
-  stop k number sent width after x r q p h g y = rw (short-field s f k number sent width after x q p h g) y
-
   module _ (r : OuterHeaderCreationRead) where
     stop6 : 2 ≤ length s → length s < e .teid → r ≡ refused (Short 6 (e .teid) (length s)) → r ≡ read s
-    unfolding endsOf
-    stop6 h g y = stop 0 6 _ 4 _ (e .teid) r refl (ap (λ (x : Ends). x .teid) here ∙ omega arith) (omega arith) g y
+    unfolding read found endsOf
+    stop6 h g q = stop-field found layout s r f refl 0 6 _ 4 _ 2 (e .teid) refl refl (rw here) h g q
 
     stop1 : e .teid ≤ length s → length s < e .ipv4 → r ≡ refused (Short 1 (e .ipv4) (length s)) → r ≡ read s
-    unfolding endsOf
-    stop1 h g y = stop 1 1 _ 4 _ (e .ipv4) r refl (ap (λ (x : Ends). x .ipv4) here ∙ omega arith) (omega (arith, ap (λ (x : Ends). x .teid) here)) g y
+    unfolding read found endsOf
+    stop1 h g q = stop-field found layout s r f refl 1 1 _ 4 _ (e .teid) (e .ipv4) refl (rw here (omega arith)) (rw here) h g q
 
     stop2 : e .ipv4 ≤ length s → length s < e .ipv6 → r ≡ refused (Short 2 (e .ipv6) (length s)) → r ≡ read s
-    unfolding endsOf
-    stop2 h g y = stop 2 2 _ 16 _ (e .ipv6) r refl (ap (λ (x : Ends). x .ipv6) here ∙ omega arith) (omega (arith, ap (λ (x : Ends). x .ipv4) here)) g y
+    unfolding read found endsOf
+    stop2 h g q = stop-field found layout s r f refl 2 2 _ 16 _ (e .ipv4) (e .ipv6) refl (rw here (omega arith)) (rw here) h g q
 
     stop7 : e .ipv6 ≤ length s → length s < e .port → r ≡ refused (Short 7 (e .port) (length s)) → r ≡ read s
-    unfolding endsOf
-    stop7 h g y = stop 3 7 _ 2 _ (e .port) r refl (ap (λ (x : Ends). x .port) here ∙ omega arith) (omega (arith, ap (λ (x : Ends). x .ipv6) here)) g y
+    unfolding read found endsOf
+    stop7 h g q = stop-field found layout s r f refl 3 7 _ 2 _ (e .ipv6) (e .port) refl (rw here (omega arith)) (rw here) h g q
 
     stop8 : e .port ≤ length s → length s < e .ctag → r ≡ refused (Short 8 (e .ctag) (length s)) → r ≡ read s
-    unfolding endsOf
-    stop8 h g y = stop 4 8 _ 3 _ (e .ctag) r refl (ap (λ (x : Ends). x .ctag) here ∙ omega arith) (omega (arith, ap (λ (x : Ends). x .port) here)) g y
+    unfolding read found endsOf
+    stop8 h g q = stop-field found layout s r f refl 4 8 _ 3 _ (e .port) (e .ctag) refl (rw here (omega arith)) (rw here) h g q
 
     stop9 : e .ctag ≤ length s → length s < e .stag → r ≡ refused (Short 9 (e .stag) (length s)) → r ≡ read s
-    unfolding endsOf
-    stop9 h g y = stop 5 9 _ 3 _ (e .stag) r refl (ap (λ (x : Ends). x .stag) here ∙ omega arith) (omega (arith, ap (λ (x : Ends). x .ctag) here)) g y
+    unfolding read found endsOf
+    stop9 h g q = stop-field found layout s r f refl 5 9 _ 3 _ (e .ctag) (e .stag) refl (rw here (omega arith)) (rw here) h g q
 
   done : (teid : MaybeTeid) (a4 : MaybeIpv4) (a6 : MaybeIpv6) (port : MaybeU16) (ctag stag : MaybeU32) → e .stag ≤ length s
       → teid ≡ teidOf (field s 2 (e .teid - 2))
@@ -77,21 +60,24 @@ module _ (s : List ℕ) (d : Flags) (a : Sent) (e : Ends) (f : length s ≤ 6553
       → ctag ≡ u32Of (field s (e .port) (e .ctag - e .port))
       → stag ≡ u32Of (field s (e .ctag) (e .stag - e .ctag))
       → record { answer = Done; used = e .stag; «record» = record { description = d; teid = teid; «ipv4_address» = a4; «ipv6_address» = a6; «port_number» = port; ctag = ctag; stag = stag } } ≡ read s
-  unfolding recordWith endsOf
+  unfolding read found recordWith endsOf
   done teid a4 a6 port ctag stag h r1 r2 r3 r4 r5 r6 =
-      rw (whole s f (rw here at h), r1, r2, r3, r4, r5, r6, here, dq) (simp add-sub-cancel-left)
+      all-there found layout s _ f refl (e .stag) (rw here (omega arith)) h
+      (rw (r1, r2, r3, r4, r5, r6, here, dq) (simp add-sub-cancel-left))
 
 refused-requires : tie.Need-refused-requires
 refused-requires c κs = search needs
 
 returns : tie.Need-returns
-returns c = search stop5
+unfolding read found
+returns c = search (stop-long found layout)
 
 short-requires : tie.Need-short-requires
 short-requires c κs = search needs
 
 returns-2 : tie.Need-returns-2
-returns-2 c = search stop0
+unfolding read found
+returns-2 c = search (stop-head found layout)
 
 shared-slice-read-of : tie.Need-shared-slice-read-of
 shared-slice-read-of c = search needs

@@ -1,16 +1,14 @@
 -- `ue_ip_address::UeIpAddress::marshal` meets its contract: five puts, one behind the other, are one put of the written form.
-use Prim.Native.Nat.{ℕ, _+_, _≤_, _<_}
+use Prim.Native.Nat.{ℕ, _+_}
 use native.Mathlib.Omega.{arith}
-use mathlib.Core.Path.{_≡_, sym, _∙_}
-use mathlib.Core.Bool.{false}
-use mathlib.Core.List.{List, [], _∷_, _++_, append-assoc}
+use mathlib.Core.Path.{_≡_, refl, sym, _∙_}
+use mathlib.Core.Bool.{Bool, false}
+use mathlib.Core.List.{List, [], _∷_, _++_}
 use lib.ListN.{length, length-append}
 use borrow.Author.Needs.{needs}
-use borrow.Author.Tests.{le-leb, lt-leb}
-use Rattle.answer.specs.declared.Answer.the-variants.{Done, NoRoom}
-use Rattle.answer.specs.Paper.{written}
 use Rattle.octets.specs.Octets.{under, flagByte, bytesIf, numberIf, ipv4Meaning, ipv6Meaning, u8Meaning, put}
-use Rattle.octets.proofs.Laws.{given-length, number-length, put-not, put-behind}
+use Rattle.octets.proofs.Laws.{flags-padded, given-length, number-length, Puts, ends, then}
+use Rattle.kind.proofs.Cases.{no-room, all-put}
 use Rattle.ue_ip_address.specs.declared.UeIpAddress.{UeIpAddress}
 use Rattle.ue_ip_address.specs.UeIpAddress.{meaning, wire}
 use Rattle.ue_ip_address.proofs.UeIpAddress.marshal.Statement.{statement}
@@ -39,44 +37,30 @@ widths r u4 u6 ub up l4 l6 e4 e6 eb ep =
       prefix = number-length (r .«ipv6_prefix_length» .given) 1 (r .«ipv6_prefix_length» .value) ∙ sym ep;
     }
 
-module _ (d : List ℕ) (r : UeIpAddress) (u4 u6 ub up : ℕ) (w : Widths r u4 u6 ub up) where
-  -- how long the written form is
+module _ (r : UeIpAddress) (u4 u6 ub up : ℕ) (w : Widths r u4 u6 ub up) where
+  -- how long the written form is, and that it is put piece by piece
   long : length (wire (meaning r)) ≡ 1 + u4 + u6 + ub + up
   unfolding wire meaning
   long = simp (length-append, w .ipv4, w .ipv6, w .bits, w .prefix) (omega arith)
 
-  -- each part of a return, from what the calls on the way to it handed over
-  stop8 : length d < 1 + u4 + u6 + ub + up → record { answer = NoRoom (1 + u4 + u6 + ub + up); len = 0 } ≡ written (length (wire (meaning r))) (length d)
-  stop8 h = rw (long, lt-leb _ _ h)
+  abbrev flags : List Bool
+  flags = r .v6 ∷ r .v4 ∷ r .«source_destination» ∷ r .«ipv6_prefix_delegation» ∷ r .«choose_ipv4» ∷ r .«choose_ipv6» ∷ r .«ipv6_prefix_length_present» ∷ []
 
-  kept : length d < 1 + u4 + u6 + ub + up → d ≡ put d 0 (wire (meaning r))
-  kept h = sym (put-not d 0 (wire (meaning r)) (omega (arith, long)))
-
-  done : 1 + u4 + u6 + ub + up ≤ length d → record { answer = Done; len = 1 + u4 + u6 + ub + up } ≡ written (length (wire (meaning r))) (length d)
-  done h = rw (long, le-leb _ _ h)
-
-  stored : (f : ℕ) (d1 d2 d3 d4 d5 : List ℕ)
-      → 1 + u4 + u6 + ub + up ≤ length d
-      → f ≡ flagByte (r .v6 ∷ r .v4 ∷ r .«source_destination» ∷ r .«ipv6_prefix_delegation» ∷ r .«choose_ipv4» ∷ r .«choose_ipv6» ∷ r .«ipv6_prefix_length_present» ∷ false ∷ [])
+  row : (f : ℕ) (d d1 d2 d3 d4 d5 : List ℕ)
+      → f ≡ flagByte (flags ++ (false ∷ []))
       → d1 ≡ put d 0 (f ∷ [])
       → d2 ≡ put d1 1 (bytesIf (ipv4Meaning (r .«ipv4_address»)))
       → d3 ≡ put d2 (1 + u4) (bytesIf (ipv6Meaning (r .«ipv6_address»)))
       → d4 ≡ put d3 (1 + u4 + u6) (numberIf 1 (u8Meaning (r .«ipv6_prefix_delegation_bits»)))
       → d5 ≡ put d4 (1 + u4 + u6 + ub) (numberIf 1 (u8Meaning (r .«ipv6_prefix_length»)))
-      → d5 ≡ put d 0 (wire (meaning r))
-  unfolding wire meaning flagByte under
-  stored f d1 d2 d3 d4 d5 h g q1 q2 q3 q4 q5 =
-      let a4 = bytesIf (ipv4Meaning (r .«ipv4_address»)) in
-      let a6 = bytesIf (ipv6Meaning (r .«ipv6_address»)) in
-      let b = numberIf 1 (u8Meaning (r .«ipv6_prefix_delegation_bits»)) in
-      let p = numberIf 1 (u8Meaning (r .«ipv6_prefix_length»)) in
-      let l6 = length-append a4 a6 in
-      let lb = length-append (a4 ++ a6) b in
-      let r2 = q2 ∙ put-behind d d1 0 1 _ a4 q1 (omega arith) (omega arith) in
-      let r3 = q3 ∙ put-behind d d2 0 (1 + u4) _ a6 r2 (omega arith) (omega arith) in
-      let r4 = q4 ∙ put-behind d d3 0 (1 + u4 + u6) _ b r3 (omega arith) (omega arith) in
-      let r5 = q5 ∙ put-behind d d4 0 (1 + u4 + u6 + ub) _ p r4 (omega arith) (omega arith) in
-      rw (r5, g, append-assoc (a4 ++ a6) b p, append-assoc a4 a6 (b ++ p))
+      → Puts d 0 (wire (meaning r)) d5
+  unfolding wire meaning
+  row f d d1 d2 d3 d4 d5 g q1 q2 q3 q4 q5 =
+      then (flagByte flags ∷ []) 1 (rw (g ∙ flags-padded flags 1) at q1) refl
+      (then _ (1 + u4) q2 (omega (arith, w .ipv4))
+      (then _ (1 + u4 + u6) q3 (omega (arith, w .ipv6))
+      (then _ (1 + u4 + u6 + ub) q4 (omega (arith, w .bits))
+      (ends q5))))
 
 -- the arrays are as long as their types say
 lengths : (c : tie.Start) → (length (c .args .self .«ipv4_address» .octets) ≡ 4) × (length (c .args .self .«ipv6_address» .octets) ≡ 16)
@@ -119,8 +103,7 @@ add-end c = search needs
 
 returns : tie.Need-returns
 returns c =
-    let w = widened (c .before) in
-    (search stop8, search kept)
+    no-room _ _ _ (long _ _ _ _ _ (widened (c .before))) (c .if1 .taken)
 
 flag-byte-requires : tie.Need-flag-byte-requires
 flag-byte-requires c κs = search needs
@@ -157,10 +140,9 @@ returns-2 c =
     let p4 = p6 .before .before .before .before in
     let pf = p4 .before .before .before .before in
     let fl = pf .before .before in
-    let w = widened (fl .before .before) in (
-      search done,
-      stored _ _ _ _ _ _ w _ _ _ _ _ _ (fl .before .if1 .left) (fl .flag-byte .ensures) (pf .put-byte .ensures) (p4 .put-ipv4 .ensures) (p6 .put-ipv6 .ensures) (pb .put-number-given .ensures) (pp .put-number-given2 .ensures),
-    )
+    let w = widened (fl .before .before) in
+    all-put _ _ _ (long _ _ _ _ _ w) _ (fl .before .if1 .left)
+    (row _ _ _ _ _ w _ _ _ _ _ _ _ (fl .flag-byte .ensures) (pf .put-byte .ensures) (p4 .put-ipv4 .ensures) (p6 .put-ipv6 .ensures) (pb .put-number-given .ensures) (pp .put-number-given2 .ensures))
 
 pub marshal-spec : {M : Type 1} → statement M
 marshal-spec =

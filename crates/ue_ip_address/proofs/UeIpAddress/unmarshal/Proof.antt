@@ -1,28 +1,22 @@
 -- `ue_ip_address::UeIpAddress::unmarshal` meets its contract: at each return, the tests that led there and what the calls handed over.
 use Prim.Native.Nat.{ℕ, _+_, _-_, _≤_, _<_}
+use native.Mathlib.Omega.{arith}
 use native.Mathlib.Nat.{add-sub-cancel-left}
-use mathlib.Core.Path.{_≡_, sym, _∙_}
+use mathlib.Core.Path.{_≡_, refl, sym, ap, _∙_}
 use mathlib.Core.Bool.{Bool}
 use mathlib.Core.List.{List}
 use lib.ListN.{length, getD}
 use borrow.Author.Needs.{needs}
-use Rattle.answer.specs.declared.Answer.the-variants.{Done, Short, Flags, TooLong}
+use Rattle.answer.specs.declared.Answer.the-variants.{Done, Short, Flags}
 use Rattle.octets.specs.declared.MaybeIpv4.{MaybeIpv4}
 use Rattle.octets.specs.declared.MaybeIpv6.{MaybeIpv6}
 use Rattle.octets.specs.declared.MaybeU8.{MaybeU8}
 use Rattle.octets.specs.Octets.{bit, under, field, ipv4Of, ipv6Of, u8Of}
+use Rattle.kind.proofs.Cases.{stop-long, stop-head, stop-rule, stop-field, all-there, width-under}
 use Rattle.ue_ip_address.specs.declared.UeIpAddressRead.{UeIpAddressRead}
-use Rattle.ue_ip_address.specs.UeIpAddress.{broken, rule, read, refused, recordOf}
-use Rattle.ue_ip_address.proofs.Laws.{too-long, empty, forbidden, short-ipv4, short-ipv6, short-bits, short-prefix, whole}
+use Rattle.ue_ip_address.specs.UeIpAddress.{broken, rule, layout, read, found, refused, recordOf}
 use Rattle.ue_ip_address.proofs.UeIpAddress.unmarshal.Statement.{statement}
 use Rattle.ue_ip_address.proofs.UeIpAddress.unmarshal.Tie as tie
-
--- each return, from what the calls on the way to it handed over
-stop5 : (s : List ℕ) (r : UeIpAddressRead) → 65535 < length s → r ≡ refused (TooLong (length s)) → r ≡ read s
-stop5 s r h q = rw (too-long s h) q
-
-stop0 : (s : List ℕ) (r : UeIpAddressRead) → length s ≤ 65535 → length s < 1 → r ≡ refused (Short 0 1 (length s)) → r ≡ read s
-stop0 s r f h q = rw (empty s f h) q
 
 -- a payload's flags, and that they break the rule k
 record Flagged (s : List ℕ) (v6 v4 sd d c4 c6 p : Bool) (k : ℕ) : Type 0 where
@@ -42,36 +36,40 @@ module _ (s : List ℕ) (v6 v4 sd d c4 c6 p : Bool) (k : ℕ) (flags : Flagged s
   ruled = rw (← flags .is-v6, ← flags .is-v4, ← flags .is-d, ← flags .is-c4, ← flags .is-c6, ← flags .is-p) (sym (flags .is-rule))
 
   stop-flags : (r : UeIpAddressRead) → (k ≡ 0 → ⊥) → r ≡ refused (Flags (getD s 0 0) k) → r ≡ read s
-  stop-flags r h q = rw (forbidden s (flags .fits) (flags .some) k ruled h) q
+  unfolding read found
+  stop-flags r h q = stop-rule found layout s r (flags .fits) k (flags .some) ruled h q
 
   module _ (free : k ≡ 0) (u4 : ℕ) (h4 : u4 ≡ under v4 4) where
     w4 : u4 ≡ under (bit 1 (getD s 0 0)) 4
-    w4 = rw (flags .is-v4) at h4
+    w4 = width-under s 1 4 v4 u4 (flags .is-v4) h4
 
     stop1 : (r : UeIpAddressRead) → length s < 1 + u4 → r ≡ refused (Short 1 (1 + u4) (length s)) → r ≡ read s
-    stop1 r h q = rw (short-ipv4 s (flags .fits) (flags .some) (ruled ∙ free) (rw w4 at h), ← w4) q
+    unfolding read found
+    stop1 r g q = stop-field found layout s r (flags .fits) (ruled ∙ free) 0 1 _ 4 _ 1 (1 + u4) refl refl (ap (λ (u : ℕ). 1 + u) w4) (flags .some) g q
 
     module _ (u6 : ℕ) (h6 : u6 ≡ under v6 16) where
       w6 : u6 ≡ under (bit 0 (getD s 0 0)) 16
-      w6 = rw (flags .is-v6) at h6
+      w6 = width-under s 0 16 v6 u6 (flags .is-v6) h6
 
       stop2 : (r : UeIpAddressRead) → 1 + u4 ≤ length s → length s < 1 + u4 + u6 → r ≡ refused (Short 2 (1 + u4 + u6) (length s)) → r ≡ read s
-      stop2 r b h q = rw (short-ipv6 s (flags .fits) (flags .some) (ruled ∙ free) (rw w4 at b) (rw (w4, w6) at h), ← w4, ← w6) q
+      unfolding read found
+      stop2 r h g q = stop-field found layout s r (flags .fits) (ruled ∙ free) 1 2 _ 16 _ (1 + u4) (1 + u4 + u6) refl (omega (arith, w4)) (ap (λ (u : ℕ). 1 + u4 + u) w6) h g q
 
       module _ (ud : ℕ) (hd : ud ≡ under d 1) where
         wd : ud ≡ under (bit 3 (getD s 0 0)) 1
-        wd = rw (flags .is-d) at hd
+        wd = width-under s 3 1 d ud (flags .is-d) hd
 
         stop3 : (r : UeIpAddressRead) → 1 + u4 + u6 ≤ length s → length s < 1 + u4 + u6 + ud → r ≡ refused (Short 3 (1 + u4 + u6 + ud) (length s)) → r ≡ read s
-        stop3 r b h q = rw (short-bits s (flags .fits) (flags .some) (ruled ∙ free) (rw (w4, w6) at b) (rw (w4, w6, wd) at h), ← w4, ← w6, ← wd) q
+        unfolding read found
+        stop3 r h g q = stop-field found layout s r (flags .fits) (ruled ∙ free) 2 3 _ 1 _ (1 + u4 + u6) (1 + u4 + u6 + ud) refl (omega (arith, w4, w6)) (ap (λ (u : ℕ). 1 + u4 + u6 + u) wd) h g q
 
         module _ (up : ℕ) (hp : up ≡ under p 1) where
           wp : up ≡ under (bit 6 (getD s 0 0)) 1
-          wp = rw (flags .is-p) at hp
+          wp = width-under s 6 1 p up (flags .is-p) hp
 
           stop4 : (r : UeIpAddressRead) → 1 + u4 + u6 + ud ≤ length s → length s < 1 + u4 + u6 + ud + up → r ≡ refused (Short 4 (1 + u4 + u6 + ud + up) (length s)) → r ≡ read s
-          stop4 r b h q =
-              rw (short-prefix s (flags .fits) (flags .some) (ruled ∙ free) (rw (w4, w6, wd) at b) (rw (w4, w6, wd, wp) at h), ← w4, ← w6, ← wd, ← wp) q
+          unfolding read found
+          stop4 r h g q = stop-field found layout s r (flags .fits) (ruled ∙ free) 3 4 _ 1 _ (1 + u4 + u6 + ud) (1 + u4 + u6 + ud + up) refl (omega (arith, w4, w6, wd)) (ap (λ (u : ℕ). 1 + u4 + u6 + ud + u) wp) h g q
 
           done : (a4 : MaybeIpv4) (a6 : MaybeIpv6) (bits prefix : MaybeU8) → 1 + u4 + u6 + ud + up ≤ length s
               → a4 ≡ ipv4Of (field s 1 (1 + u4 - 1))
@@ -95,10 +93,10 @@ module _ (s : List ℕ) (v6 v4 sd d c4 c6 p : Bool) (k : ℕ) (flags : Flagged s
                   «ipv6_prefix_length» = prefix;
                 };
               } ≡ read s
-          unfolding recordOf
+          unfolding read found recordOf
           done a4 a6 bits prefix h q4 q6 qd qp =
-              rw (
-                whole s (flags .fits) (ruled ∙ free) (rw (w4, w6, wd, wp) at h),
+              all-there found layout s _ (flags .fits) (ruled ∙ free) (1 + u4 + u6 + ud + up) (omega (arith, w4, w6, wd, wp)) h
+              (rw (
                 q4,
                 q6,
                 qd,
@@ -118,7 +116,7 @@ module _ (s : List ℕ) (v6 v4 sd d c4 c6 p : Bool) (k : ℕ) (flags : Flagged s
                 flags .is-c4,
                 flags .is-c6,
                 flags .is-p,
-              )
+              ))
 
 -- what is known where the rule has been answered
 flagged : (c : tie.After-broken-rule) →
@@ -142,13 +140,15 @@ refused-requires : tie.Need-refused-requires
 refused-requires c κs = search needs
 
 returns : tie.Need-returns
-returns c = search stop5
+unfolding read found
+returns c = search (stop-long found layout)
 
 refused-requires-2 : tie.Need-refused-requires-2
 refused-requires-2 c κs = search needs
 
 returns-2 : tie.Need-returns-2
-returns-2 c = search stop0
+unfolding read found
+returns-2 c = search (stop-head found layout)
 
 shared-slice-read-flags : tie.Need-shared-slice-read-flags
 shared-slice-read-flags c = search needs

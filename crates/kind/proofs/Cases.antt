@@ -1,0 +1,59 @@
+-- What a reader that goes by a layout answers, and what a writer answers and stores, case by case, for every kind. No contract cites this file.
+use Prim.Native.Nat.{ℕ, zero, suc, _+_, _≤_, _<_}
+use native.Mathlib.Omega.{arith}
+use mathlib.Core.Path.{_≡_, refl, sym}
+use mathlib.Core.Bool.{Bool}
+use mathlib.Core.List.{List, _∷_}
+use lib.ListN.{length, getD, take, drop}
+use borrow.Author.Tests.{le-leb, lt-leb}
+use Rattle.answer.specs.declared.Answer.the-variants.{Done, Short, Flags, TooLong, NoRoom}
+use Rattle.answer.specs.Paper.{written}
+use Rattle.octets.specs.Octets.{bit, under, put}
+use Rattle.octets.proofs.Laws.{put-not, Puts, put-row}
+use Rattle.kind.specs.Layout.{Wanted, wanted, Layout, Outcome, accepts, refuses, judged, outcome}
+use Rattle.kind.proofs.Laws.{total, end, too-long, too-short, headed, whole}
+use Rattle.kind.proofs.Rows.{stops}
+
+-- ---- readers: `found` is what a reader makes of an outcome, and r what it answers
+module _ {Read : Type 0} (found : List ℕ → Outcome → Read) (l : Layout) (s : List ℕ) (r : Read) where
+  pub stop-long : 65535 < length s → r ≡ found s (refuses (TooLong (length s))) → r ≡ found s (outcome l s)
+  stop-long h q = rw (too-long l s h) q
+
+  module _ (fits : length s ≤ 65535) where
+    pub stop-head : length s < l .head → r ≡ found s (refuses (Short 0 (l .head) (length s))) → r ≡ found s (outcome l s)
+    stop-head h q = rw (too-short l s fits h) q
+
+    pub stop-rule : (k : ℕ) → l .head ≤ length s → l .rule (getD s 0 0) ≡ k → (k ≡ 0 → ⊥) → r ≡ found s (refuses (Flags (getD s 0 0) k)) → r ≡ found s (outcome l s)
+    unfolding judged
+    stop-rule zero h e g q = absurd (g refl)
+    stop-rule (suc k) h e g q = rw (headed l s fits h, e) q
+
+    module _ (free : l .rule (getD s 0 0) ≡ 0) where
+      -- the fields before the k-th end at a place within the payload, and the k-th, which ends at e, isn't all there
+      pub stop-field : (k number : ℕ) (sent : Bool) (width : ℕ) (after : List Wanted) (at e : ℕ)
+          → drop k (l .fields (getD s 0 0)) ≡ wanted number sent width ∷ after
+          → at ≡ l .head + total (take k (l .fields (getD s 0 0)))
+          → e ≡ at + under sent width
+          → at ≤ length s
+          → length s < e
+          → r ≡ found s (refuses (Short number e (length s)))
+          → r ≡ found s (outcome l s)
+      stop-field k number sent width after at e p a b h g q =
+          rw (stops l s k number sent width after e p free fits (omega arith) (omega arith) g) q
+
+      pub all-there : (e : ℕ) → e ≡ end l s → e ≤ length s → r ≡ found s (accepts e) → r ≡ found s (outcome l s)
+      all-there e p h q = rw (whole l s fits free (omega arith), ← p) q
+
+-- the width of a field under a flag that was read
+pub width-under : (s : List ℕ) (k w : ℕ) (f : Bool) (u : ℕ) → f ≡ bit k (getD s 0 0) → u ≡ under f w → u ≡ under (bit k (getD s 0 0)) w
+width-under s k w f u d e = rw d at e
+
+-- ---- writers: d is the output, and bytes are the written form, n of them
+module _ (d bytes : List ℕ) (n : ℕ) (long : length bytes ≡ n) where
+  -- where they don't fit, refusal 8, and the output as it was
+  pub no-room : length d < n → (record { answer = NoRoom n; len = 0 } ≡ written (length bytes) (length d)) × (d ≡ put d 0 bytes)
+  no-room h = (rw (long, lt-leb n (length d) h), sym (put-not d 0 bytes (omega arith)))
+
+  -- where they fit and were put piece by piece, done
+  pub all-put : (e : List ℕ) → n ≤ length d → Puts d 0 bytes e → (record { answer = Done; len = n } ≡ written (length bytes) (length d)) × (e ≡ put d 0 bytes)
+  all-put e h p = (rw (long, le-leb n (length d) h), put-row p (omega arith))
