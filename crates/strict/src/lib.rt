@@ -1,0 +1,117 @@
+// The strict verdict on a payload: yes or no, one function a kind.
+use answer::Answer;
+use f_teid::Fteid;
+use fseid::Fseid;
+use node_id::NodeId;
+use outer_header_creation::OuterHeaderCreation;
+use pfd_contents::PfdContents;
+use ue_ip_address::UeIpAddress;
+ghost use mathlib.Core.Path.{_≡_};
+ghost use mathlib.Core.Bool.{not, _&&_, _||_};
+ghost use mathlib.Core.List.{List};
+ghost use Prim.Native.Nat.{ℕ};
+ghost use lib.Dec.{eqb};
+ghost use Rattle.answer.specs.Paper.{numberOf};
+ghost use Rattle.octets.specs.Octets.{bit};
+ghost use Rattle.pfd_contents.specs.PfdContents.{meaning};
+ghost use Rattle.strict.specs.Strict.{ueIpAddress, fTeid, fSeid, nodeId, outerHeaderCreation, pfdContents, complete};
+
+// Tests without branches.
+fn both(a: bool, b: bool) -> bool
+    ensures { λ r. ⌜ r ≡ a && b ⌝ }
+{
+    if a { b } else { false }
+}
+
+fn either(a: bool, b: bool) -> bool
+    ensures { λ r. ⌜ r ≡ a || b ⌝ }
+{
+    if a { true } else { b }
+}
+
+// No if the reader refused, else what the kind asks.
+fn judged(answer: Answer, asked: bool) -> bool
+    ensures { λ r. ⌜ r ≡ eqb (numberOf answer) 0 && asked ⌝ }
+{
+    both(answer.number() == 0, asked)
+}
+
+// Whether all was well before, and what bit k of the flags announces is there.
+fn kept(before: bool, flags: u8, k: u8, there: bool) -> bool
+    ensures { λ r. ⌜ r ≡ before && (not (bit k flags) || there) ⌝ }
+{
+    both(before, either(!octets::bit(flags, k), there))
+}
+
+// Whether all that the flags announce is there.
+fn complete(record: PfdContents) -> bool
+    ensures { λ r. ⌜ ((s : List ℕ) → r ≡ complete (meaning s «record»)) ⌝ }
+{
+    let flags = record.flags;
+    let flow = kept(true, flags, 0, record.flow_description.given);
+    let url = kept(flow, flags, 1, record.url.given);
+    let domain = kept(url, flags, 2, record.domain_name.given);
+    let custom = kept(domain, flags, 3, record.custom_pfd_content.given);
+    let protocol = kept(custom, flags, 4, record.domain_name_protocol.given);
+    let flows = kept(
+        protocol,
+        flags,
+        5,
+        record.additional_flow_description.count != 0,
+    );
+    let urls = kept(flows, flags, 6, record.additional_url.count != 0);
+    kept(
+        urls,
+        flags,
+        7,
+        record.additional_domain_name_and_protocol.count != 0,
+    )
+}
+
+pub fn ue_ip_address(payload: &[u8]) -> bool
+    ensures { λ r. ⌜ r ≡ ueIpAddress (now (payload .entry)) ⌝ }
+{
+    let address_answer = UeIpAddress::unmarshal(payload).answer;
+    judged(address_answer, true)
+}
+
+pub fn f_teid(payload: &[u8]) -> bool
+    ensures { λ r. ⌜ r ≡ fTeid (now (payload .entry)) ⌝ }
+{
+    let read = Fteid::unmarshal(payload);
+    let answer = read.answer;
+    let tunnel = read.record;
+    judged(answer, either(tunnel.v4, tunnel.v6))
+}
+
+pub fn fseid(payload: &[u8]) -> bool
+    ensures { λ r. ⌜ r ≡ fSeid (now (payload .entry)) ⌝ }
+{
+    let read = Fseid::unmarshal(payload);
+    let answer = read.answer;
+    let session = read.record;
+    judged(answer, either(session.v4, session.v6))
+}
+
+pub fn node_id(payload: &[u8]) -> bool
+    ensures { λ r. ⌜ r ≡ nodeId (now (payload .entry)) ⌝ }
+{
+    let node_answer = NodeId::unmarshal(payload).answer;
+    judged(node_answer, true)
+}
+
+pub fn outer_header_creation(payload: &[u8]) -> bool
+    ensures { λ r. ⌜ r ≡ outerHeaderCreation (now (payload .entry)) ⌝ }
+{
+    let header_answer = OuterHeaderCreation::unmarshal(payload).answer;
+    judged(header_answer, true)
+}
+
+pub fn pfd_contents(payload: &[u8]) -> bool
+    ensures { λ r. ⌜ r ≡ pfdContents (now (payload .entry)) ⌝ }
+{
+    let read = PfdContents::unmarshal(payload);
+    let answer = read.answer;
+    let record = read.record;
+    judged(answer, complete(record))
+}
