@@ -4,7 +4,7 @@ use native.Mathlib.Omega.{arith}
 use native.Mathlib.Nat.{mod-one}
 use mathlib.Core.Path.{_≡_, refl, ap, _∙_}
 use mathlib.Core.Bool.{Bool}
-use mathlib.Core.List.{List, [], _∷_, _++_, flatten}
+use mathlib.Core.List.{List, [], _∷_, flatten}
 use lib.ListN.{length, getD, take, drop}
 use Rattle.octets.specs.Octets.{bit, under, Bytes, field, bytesOf, numberIf, u16Of, u32Of, u16Meaning, u32Meaning}
 use Rattle.octets.proofs.Laws.{under-le, flags-kept, length-field, bytes-take, bytes-drop, ipv4-bytes, ipv6-bytes, u16-bytes, u32-bytes}

@@ -8,11 +8,12 @@ use octets::MaybeU32;
 use types::MaybeTeid;
 use types::Teid;
 ghost use mathlib.Core.Path.{_≡_};
+ghost use Prim.Native.Nat.{_≤_};
 ghost use lib.ListN.{length};
 ghost use Rattle.octets.specs.Octets.{put};
 ghost use Rattle.answer.specs.declared.Answer.the-variants.{Short};
 ghost use Rattle.answer.specs.Paper.{written};
-ghost use Rattle.outer_header_creation.specs.OuterHeaderCreation.{flagsOf, byteOf, asked, sends, endsOf, Rising, meaning, wire, teidOf, untagged, bare, gtpuIpv4, gtpuIpv6, udpIpv4, withCtag, withStag, read, refused};
+ghost use Rattle.outer_header_creation.specs.OuterHeaderCreation.{flagsOf, byteOf, asked, sends, endsOf, Rising, meaning, wire, teidOf, untagged, bare, gtpuIpv4, gtpuIpv6, udpIpv4, withCtag, withStag, recordWith, read, refused};
 
 // What the outer header is to have.
 pub struct OuterHeaderCreationFlags {
@@ -92,6 +93,40 @@ fn teid_of(bs: &[u8]) -> MaybeTeid
     MaybeTeid {
         given: number.given,
         value: Teid(number.value),
+    }
+}
+
+// The record of a payload that has all the fields that its flags ask for.
+fn record_of(
+    payload: &[u8],
+    description: OuterHeaderCreationFlags,
+    ends: Ends,
+) -> OuterHeaderCreation
+    requires { ⌜ ends ≡ endsOf (asked description) ⌝ }
+    requires { ⌜ Rising ends ⌝ }
+    requires { ⌜ ends .stag ≤ length (now payload) ⌝ }
+    ensures { λ r. ⌜ r ≡ recordWith description (now (payload .entry)) ⌝ }
+{
+    let end_teid = ends.teid;
+    let end_ipv4 = ends.ipv4;
+    let end_ipv6 = ends.ipv6;
+    let end_port = ends.port;
+    let end_ctag = ends.ctag;
+    let end_stag = ends.stag;
+    let teid = teid_of(&payload[2..end_teid]);
+    let ipv4_address = MaybeIpv4::of(&payload[end_teid..end_ipv4]);
+    let ipv6_address = MaybeIpv6::of(&payload[end_ipv4..end_ipv6]);
+    let port_number = MaybeU16::of(&payload[end_ipv6..end_port]);
+    let ctag = MaybeU32::of(&payload[end_port..end_ctag]);
+    let stag = MaybeU32::of(&payload[end_ctag..end_stag]);
+    OuterHeaderCreation {
+        description,
+        teid,
+        ipv4_address,
+        ipv6_address,
+        port_number,
+        ctag,
+        stag,
     }
 }
 
@@ -355,24 +390,10 @@ impl OuterHeaderCreation {
         if n < end_stag {
             return short(9, end_stag, n);
         }
-        let teid = teid_of(&payload[2..end_teid]);
-        let ipv4_address = MaybeIpv4::of(&payload[end_teid..end_ipv4]);
-        let ipv6_address = MaybeIpv6::of(&payload[end_ipv4..end_ipv6]);
-        let port_number = MaybeU16::of(&payload[end_ipv6..end_port]);
-        let ctag = MaybeU32::of(&payload[end_port..end_ctag]);
-        let stag = MaybeU32::of(&payload[end_ctag..end_stag]);
         OuterHeaderCreationRead {
             answer: Answer::Done,
             used: end_stag,
-            record: OuterHeaderCreation {
-                description,
-                teid,
-                ipv4_address,
-                ipv6_address,
-                port_number,
-                ctag,
-                stag,
-            },
+            record: record_of(payload, description, ends),
         }
     }
 

@@ -61,10 +61,12 @@ returns-2 c =
     let pb = pn .before .before .before .before .before in
     let fl = pb .before .before in
     let u = fl .before .before in
-    let ch = u .before .before .pre in
+    let start = u .before .before in
+    let r = start .args .r in
+    let ch = start .pre in
     let e = u .under .ensures .0 in
-    all-put _ _ _ (long _ _ ch e) _ (fl .before .if1 .left)
-    (row _ _ ch e _ _ _ _ (fl .flag-byte .ensures) (pb .put-byte .ensures) (pn .put-number-given .ensures))
+    all-put _ _ _ (long r _ ch e) _ (fl .before .if1 .left)
+    (row r _ ch e _ _ _ _ (fl .flag-byte .ensures) (pb .put-byte .ensures) (pn .put-number-given .ensures))
 
 pub write-chosen-spec : {M : Type 1} → statement M
 write-chosen-spec =

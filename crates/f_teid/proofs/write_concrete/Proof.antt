@@ -92,12 +92,13 @@ returns-2 c =
     let u6 = fl .before .before in
     let u4 = u6 .before in
     let start = u4 .before .before .before .before in
+    let r = start .args .r in
     let ch = start .pre in
     let e4 = u4 .under .ensures .0 in
     let e6 = u6 .under2 .ensures .0 in
     let (l4, l6) = lengths start in
-    all-put _ _ _ (long _ _ _ ch e4 e6 l4 l6) _ (fl .before .if1 .left)
-    (row _ _ _ ch e4 e6 l4 l6 _ _ _ _ _ _ (fl .flag-byte .ensures) (pb .put-byte .ensures) (pn .put-number .ensures) (p4 .put-ipv4 .ensures) (p6 .put-ipv6 .ensures))
+    all-put _ _ _ (long r _ _ ch e4 e6 l4 l6) _ (fl .before .if1 .left)
+    (row r _ _ ch e4 e6 l4 l6 _ _ _ _ _ _ (fl .flag-byte .ensures) (pb .put-byte .ensures) (pn .put-number .ensures) (p4 .put-ipv4 .ensures) (p6 .put-ipv6 .ensures))
 
 pub write-concrete-spec : {M : Type 1} → statement M
 write-concrete-spec =

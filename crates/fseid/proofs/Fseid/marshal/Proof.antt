@@ -81,9 +81,11 @@ returns-2 c =
     let u4 = u6 .before in
     let e4 = u4 .under .ensures .0 in
     let e6 = u6 .under2 .ensures .0 in
-    let (l4, l6) = lengths (u4 .before .before .before .before) in
-    all-put _ _ _ (long _ _ _ e4 e6 l4 l6) _ (fl .before .if1 .left)
-    (row _ _ _ e4 e6 l4 l6 _ _ _ _ _ _ (fl .flag-byte .ensures) (pb .put-byte .ensures) (pn .put-number .ensures) (p4 .put-ipv4 .ensures) (p6 .put-ipv6 .ensures))
+    let start = u4 .before .before .before .before in
+    let r = start .args .self in
+    let (l4, l6) = lengths start in
+    all-put _ _ _ (long r _ _ e4 e6 l4 l6) _ (fl .before .if1 .left)
+    (row r _ _ e4 e6 l4 l6 _ _ _ _ _ _ (fl .flag-byte .ensures) (pb .put-byte .ensures) (pn .put-number .ensures) (p4 .put-ipv4 .ensures) (p6 .put-ipv6 .ensures))
 
 pub marshal-spec : {M : Type 1} → statement M
 marshal-spec =

@@ -1,69 +1,72 @@
 -- `outer_header_creation::OuterHeaderCreation::unmarshal` meets its contract: at each return, the tests that led there and what the calls handed over.
 use Prim.Native.Nat.{ℕ, _-_, _≤_, _<_}
 use native.Mathlib.Omega.{arith}
-use native.Mathlib.Nat.{add-sub-cancel-left}
 use mathlib.Core.Path.{_≡_, refl, ap, _∙_}
 use mathlib.Core.List.{List}
 use lib.ListN.{length, getD}
 use Rattle.answer.specs.declared.Answer.the-variants.{Done, Short}
-use Rattle.types.specs.declared.MaybeTeid.{MaybeTeid}
-use Rattle.octets.specs.declared.MaybeIpv4.{MaybeIpv4}
-use Rattle.octets.specs.declared.MaybeIpv6.{MaybeIpv6}
-use Rattle.octets.specs.declared.MaybeU16.{MaybeU16}
-use Rattle.octets.specs.declared.MaybeU32.{MaybeU32}
-use Rattle.octets.specs.Octets.{field, ipv4Of, ipv6Of, u16Of, u32Of}
 use Rattle.kind.proofs.Cases.{stop-long, stop-head, stop-field, all-there}
-use Rattle.outer_header_creation.specs.declared.Sent.{Sent}
 use Rattle.outer_header_creation.specs.declared.Ends.{Ends}
+use Rattle.outer_header_creation.specs.declared.OuterHeaderCreation.{OuterHeaderCreation}
 use Rattle.outer_header_creation.specs.declared.OuterHeaderCreationRead.{OuterHeaderCreationRead}
-use Rattle.outer_header_creation.specs.OuterHeaderCreation.{Flags, flagsOf, asked, layout, endsOf, teidOf, recordWith, read, found, refused}
+use Rattle.outer_header_creation.specs.OuterHeaderCreation.{Flags, flagsOf, asked, layout, endsOf, recordWith, read, found, refused}
 use Rattle.outer_header_creation.proofs.Laws.{ends}
 use borrow.Author.Needs.{needs}
 use Rattle.outer_header_creation.proofs.OuterHeaderCreation.unmarshal.Statement.{statement}
 use Rattle.outer_header_creation.proofs.OuterHeaderCreation.unmarshal.Tie as tie
 
--- each return behind the first two, from what the calls on the way to it handed over
-module _ (s : List ℕ) (d : Flags) (a : Sent) (e : Ends) (f : length s ≤ 65535) (dq : d ≡ flagsOf (getD s 0 0)) (aq : a ≡ asked d) (eq : e ≡ endsOf a) where
+-- what is known of a payload where its ends are
+record Known (s : List ℕ) (d : Flags) (e : Ends) : Type 0 where
+  pub fits : length s ≤ 65535
+  pub some : 2 ≤ length s
+  pub flags : d ≡ flagsOf (getD s 0 0)
+  pub ends-are : e ≡ endsOf (asked d)
+
+-- each return behind the first two
+module _ (s : List ℕ) (d : Flags) (e : Ends) (k : Known s d e) where
   here : e ≡ ends s
-  here = eq ∙ ap endsOf (aq ∙ ap asked dq)
+  here = k .ends-are ∙ ap (λ (f : Flags). endsOf (asked f)) (k .flags)
 
   module _ (r : OuterHeaderCreationRead) where
-    stop6 : 2 ≤ length s → length s < e .teid → r ≡ refused (Short 6 (e .teid) (length s)) → r ≡ read s
+    stop6 : length s < e .teid → r ≡ refused (Short 6 (e .teid) (length s)) → r ≡ read s
     unfolding read found endsOf
-    stop6 h g q = stop-field found layout s r f refl 0 6 _ 4 _ 2 (e .teid) refl refl (rw here) h g q
+    stop6 g q = stop-field found layout s r (k .fits) refl 0 6 _ 4 _ 2 (e .teid) refl refl (rw here) (k .some) g q
 
     stop1 : e .teid ≤ length s → length s < e .ipv4 → r ≡ refused (Short 1 (e .ipv4) (length s)) → r ≡ read s
     unfolding read found endsOf
-    stop1 h g q = stop-field found layout s r f refl 1 1 _ 4 _ (e .teid) (e .ipv4) refl (rw here (omega arith)) (rw here) h g q
+    stop1 h g q = stop-field found layout s r (k .fits) refl 1 1 _ 4 _ (e .teid) (e .ipv4) refl (rw here (omega arith)) (rw here) h g q
 
     stop2 : e .ipv4 ≤ length s → length s < e .ipv6 → r ≡ refused (Short 2 (e .ipv6) (length s)) → r ≡ read s
     unfolding read found endsOf
-    stop2 h g q = stop-field found layout s r f refl 2 2 _ 16 _ (e .ipv4) (e .ipv6) refl (rw here (omega arith)) (rw here) h g q
+    stop2 h g q = stop-field found layout s r (k .fits) refl 2 2 _ 16 _ (e .ipv4) (e .ipv6) refl (rw here (omega arith)) (rw here) h g q
 
     stop7 : e .ipv6 ≤ length s → length s < e .port → r ≡ refused (Short 7 (e .port) (length s)) → r ≡ read s
     unfolding read found endsOf
-    stop7 h g q = stop-field found layout s r f refl 3 7 _ 2 _ (e .ipv6) (e .port) refl (rw here (omega arith)) (rw here) h g q
+    stop7 h g q = stop-field found layout s r (k .fits) refl 3 7 _ 2 _ (e .ipv6) (e .port) refl (rw here (omega arith)) (rw here) h g q
 
     stop8 : e .port ≤ length s → length s < e .ctag → r ≡ refused (Short 8 (e .ctag) (length s)) → r ≡ read s
     unfolding read found endsOf
-    stop8 h g q = stop-field found layout s r f refl 4 8 _ 3 _ (e .port) (e .ctag) refl (rw here (omega arith)) (rw here) h g q
+    stop8 h g q = stop-field found layout s r (k .fits) refl 4 8 _ 3 _ (e .port) (e .ctag) refl (rw here (omega arith)) (rw here) h g q
 
     stop9 : e .ctag ≤ length s → length s < e .stag → r ≡ refused (Short 9 (e .stag) (length s)) → r ≡ read s
     unfolding read found endsOf
-    stop9 h g q = stop-field found layout s r f refl 5 9 _ 3 _ (e .ctag) (e .stag) refl (rw here (omega arith)) (rw here) h g q
+    stop9 h g q = stop-field found layout s r (k .fits) refl 5 9 _ 3 _ (e .ctag) (e .stag) refl (rw here (omega arith)) (rw here) h g q
 
-  done : (teid : MaybeTeid) (a4 : MaybeIpv4) (a6 : MaybeIpv6) (port : MaybeU16) (ctag stag : MaybeU32) → e .stag ≤ length s
-      → teid ≡ teidOf (field s 2 (e .teid - 2))
-      → a4 ≡ ipv4Of (field s (e .teid) (e .ipv4 - e .teid))
-      → a6 ≡ ipv6Of (field s (e .ipv4) (e .ipv6 - e .ipv4))
-      → port ≡ u16Of (field s (e .ipv6) (e .port - e .ipv6))
-      → ctag ≡ u32Of (field s (e .port) (e .ctag - e .port))
-      → stag ≡ u32Of (field s (e .ctag) (e .stag - e .ctag))
-      → record { answer = Done; used = e .stag; «record» = record { description = d; teid = teid; «ipv4_address» = a4; «ipv6_address» = a6; «port_number» = port; ctag = ctag; stag = stag } } ≡ read s
-  unfolding read found recordWith endsOf
-  done teid a4 a6 port ctag stag h r1 r2 r3 r4 r5 r6 =
-      all-there found layout s _ f refl (e .stag) (rw here (omega arith)) h
-      (rw (r1, r2, r3, r4, r5, r6, here, dq) (simp add-sub-cancel-left))
+  done : (x : OuterHeaderCreation) → e .stag ≤ length s → x ≡ recordWith d s → record { answer = Done; used = e .stag; «record» = x } ≡ read s
+  unfolding read found endsOf
+  done x h q = all-there found layout s _ (k .fits) refl (e .stag) (rw here (omega arith)) h (rw (q, k .flags))
+
+known : (c : tie.After-ends-of) → Known (c .before .before .before .before .before .before .before .args .payload .now) (c .before .before .of .result) (c .ends-of .result)
+known c =
+    let asked-of = c .before in
+    let flags-of = asked-of .before in
+    let tests = flags-of .before .before in
+    record {
+      fits = tests .before .if1 .left;
+      some = tests .if2 .left;
+      flags = flags-of .of .ensures;
+      ends-are = c .ends-of .ensures .0 ∙ ap endsOf (asked-of .asked .ensures);
+    }
 
 refused-requires : tie.Need-refused-requires
 refused-requires c κs = search needs
@@ -95,122 +98,45 @@ short-requires-2 : tie.Need-short-requires-2
 short-requires-2 c κs = search needs
 
 returns-3 : tie.Need-returns-3
-returns-3 c = search stop6
+returns-3 c = let t = c .before in stop6 _ _ _ (known (t .before)) _ (t .if3 .taken) (c .short2 .ensures)
 
 short-requires-3 : tie.Need-short-requires-3
 short-requires-3 c κs = search needs
 
 returns-4 : tie.Need-returns-4
-returns-4 c = search stop1
+returns-4 c = let t = c .before in stop1 _ _ _ (known (t .before .before)) _ (t .before .if3 .left) (t .if4 .taken) (c .short3 .ensures)
 
 short-requires-4 : tie.Need-short-requires-4
 short-requires-4 c κs = search needs
 
 returns-5 : tie.Need-returns-5
-returns-5 c = search stop2
+returns-5 c = let t = c .before in stop2 _ _ _ (known (t .before .before .before)) _ (t .before .if4 .left) (t .if5 .taken) (c .short4 .ensures)
 
 short-requires-5 : tie.Need-short-requires-5
 short-requires-5 c κs = search needs
 
 returns-6 : tie.Need-returns-6
-returns-6 c = search stop7
+returns-6 c = let t = c .before in stop7 _ _ _ (known (t .before .before .before .before)) _ (t .before .if5 .left) (t .if6 .taken) (c .short5 .ensures)
 
 short-requires-6 : tie.Need-short-requires-6
 short-requires-6 c κs = search needs
 
 returns-7 : tie.Need-returns-7
-returns-7 c = search stop8
+returns-7 c = let t = c .before in stop8 _ _ _ (known (t .before .before .before .before .before)) _ (t .before .if6 .left) (t .if7 .taken) (c .short6 .ensures)
 
 short-requires-7 : tie.Need-short-requires-7
 short-requires-7 c κs = search needs
 
 returns-8 : tie.Need-returns-8
-returns-8 c = search stop9
+returns-8 c = let t = c .before in stop9 _ _ _ (known (t .before .before .before .before .before .before)) _ (t .before .if7 .left) (t .if8 .taken) (c .short7 .ensures)
 
-sub-teid-of : tie.Need-sub-teid-of
-sub-teid-of c = search needs
-
-part-teid-of-start : tie.Need-part-teid-of-start
-part-teid-of-start c = search needs
-
-part-teid-of-end : tie.Need-part-teid-of-end
-part-teid-of-end c = search needs
-
-teid-of-requires : tie.Need-teid-of-requires
-teid-of-requires c κs = search needs
-
-sub-of : tie.Need-sub-of
-sub-of c = search needs
-
-part-of-start : tie.Need-part-of-start
-part-of-start c = search needs
-
-part-of-end : tie.Need-part-of-end
-part-of-end c = search needs
-
-of-requires-2 : tie.Need-of-requires-2
-of-requires-2 c κs = search needs
-
-sub-of-2 : tie.Need-sub-of-2
-sub-of-2 c = search needs
-
-part-of-start-2 : tie.Need-part-of-start-2
-part-of-start-2 c = search needs
-
-part-of-end-2 : tie.Need-part-of-end-2
-part-of-end-2 c = search needs
-
-of-requires-3 : tie.Need-of-requires-3
-of-requires-3 c κs = search needs
-
-sub-of-3 : tie.Need-sub-of-3
-sub-of-3 c = search needs
-
-part-of-start-3 : tie.Need-part-of-start-3
-part-of-start-3 c = search needs
-
-part-of-end-3 : tie.Need-part-of-end-3
-part-of-end-3 c = search needs
-
-of-requires-4 : tie.Need-of-requires-4
-of-requires-4 c κs = search needs
-
-sub-of-4 : tie.Need-sub-of-4
-sub-of-4 c = search needs
-
-part-of-start-4 : tie.Need-part-of-start-4
-part-of-start-4 c = search needs
-
-part-of-end-4 : tie.Need-part-of-end-4
-part-of-end-4 c = search needs
-
-of-requires-5 : tie.Need-of-requires-5
-of-requires-5 c κs = search needs
-
-sub-of-5 : tie.Need-sub-of-5
-sub-of-5 c = search needs
-
-part-of-start-5 : tie.Need-part-of-start-5
-part-of-start-5 c = search needs
-
-part-of-end-5 : tie.Need-part-of-end-5
-part-of-end-5 c = search needs
-
-of-requires-6 : tie.Need-of-requires-6
-of-requires-6 c κs = search needs
+record-of-requires : tie.Need-record-of-requires
+record-of-requires c κs =
+    let ends = c .before .before .before .before .before .before in
+    (known ends .ends-are, (ends .ends-of .ensures .1, c .if8 .left))
 
 returns-9 : tie.Need-returns-9
-returns-9 c =
-    let ctag = c .before .before in
-    let port = ctag .before .before in
-    let ipv6 = port .before .before in
-    let ipv4 = ipv6 .before .before in
-    let teid = ipv4 .before .before in
-    let tests = teid .before .before in
-    let ends = tests .before .before .before .before .before .before in
-    let asked = ends .before in
-    let flags = asked .before in
-    done _ _ _ _ (flags .before .before .before .if1 .left) (flags .of .ensures) (asked .asked .ensures) (ends .ends-of .ensures .0) _ _ _ _ _ _ (tests .if8 .left) (teid .teid-of .ensures) (ipv4 .of2 .ensures) (ipv6 .of3 .ensures) (port .of4 .ensures) (ctag .of5 .ensures) (c .of6 .ensures)
+returns-9 c = let t = c .before in done _ _ _ (known (t .before .before .before .before .before .before)) _ (t .if8 .left) (c .record-of .ensures)
 
 pub unmarshal-spec : {M : Type 1} → statement M
 unmarshal-spec =
@@ -236,28 +162,5 @@ unmarshal-spec =
     returns-7
     short-requires-7
     returns-8
-    sub-teid-of
-    part-teid-of-start
-    part-teid-of-end
-    teid-of-requires
-    sub-of
-    part-of-start
-    part-of-end
-    of-requires-2
-    sub-of-2
-    part-of-start-2
-    part-of-end-2
-    of-requires-3
-    sub-of-3
-    part-of-start-3
-    part-of-end-3
-    of-requires-4
-    sub-of-4
-    part-of-start-4
-    part-of-end-4
-    of-requires-5
-    sub-of-5
-    part-of-start-5
-    part-of-end-5
-    of-requires-6
+    record-of-requires
     returns-9)

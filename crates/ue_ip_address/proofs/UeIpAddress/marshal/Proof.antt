@@ -140,9 +140,11 @@ returns-2 c =
     let p4 = p6 .before .before .before .before in
     let pf = p4 .before .before .before .before in
     let fl = pf .before .before in
-    let w = widened (fl .before .before) in
-    all-put _ _ _ (long _ _ _ _ _ w) _ (fl .before .if1 .left)
-    (row _ _ _ _ _ w _ _ _ _ _ _ _ (fl .flag-byte .ensures) (pf .put-byte .ensures) (p4 .put-ipv4 .ensures) (p6 .put-ipv6 .ensures) (pb .put-number-given .ensures) (pp .put-number-given2 .ensures))
+    let u4 = fl .before .before in
+    let r = u4 .before .before .before .before .before .before .before .before .before .args .self in
+    let w = widened u4 in
+    all-put _ _ _ (long r _ _ _ _ w) _ (fl .before .if1 .left)
+    (row r _ _ _ _ w _ _ _ _ _ _ _ (fl .flag-byte .ensures) (pf .put-byte .ensures) (p4 .put-ipv4 .ensures) (p6 .put-ipv6 .ensures) (pb .put-number-given .ensures) (pp .put-number-given2 .ensures))
 
 pub marshal-spec : {M : Type 1} → statement M
 marshal-spec =
