@@ -7,7 +7,7 @@ use native.Mathlib.Omega.{arith}
 use native.Mathlib.Nat.{add-sub-cancel-left}
 use borrow.Author.Tests.{lt-ltb, le-ltb, ltb-true, ltb-false}
 use lib.Dec.{ltb, eqb}
-use lib.ListN.{length, take, drop, length-take}
+use lib.ListN.{length, take, drop, length-take, length-drop}
 use Rattle.octets.specs.Octets.{pick, bigEndian}
 use Rattle.octets.proofs.Laws.{number-field}
 use Rattle.text.specs.Utf8.{goodLen}
@@ -25,17 +25,28 @@ use lib.Dec.{leb}
 
 -- ---- the length
 
-pub length-is : (s p : List ℕ) (at r : ℕ) → p ≡ take 2 (drop at s) → r ≡ pick (leb (length p) 8) (bigEndian p) 0 → r ≡ lengthAt s at
-length-is s p at r e q = q ∙ ap (λ (l : List ℕ). pick (leb (length l) 8) (bigEndian l) 0) e ∙ number-field s at 2 (omega arith)
+-- the two bytes of a length, as far as there are any
+module _ (s : List ℕ) (at : ℕ) {p : List ℕ} (e : p ≡ take 2 (drop at s)) where
+  head-length : length p ≡ length (take 2 (drop at s))
+  head-length = ap length e
 
-pub length-small : (s p : List ℕ) (at r : ℕ) → p ≡ take 2 (drop at s) → r < 256 ^ length p → r < 65536
-length-small s p at r e h = go (length p) (omega (arith, ap length e, length-take 2 (drop at s))) h
-  where
-    go : (n : ℕ) → n ≤ 2 → r < 256 ^ n → r < 65536
-    go zero l h = omega arith
-    go (suc zero) l h = omega arith
-    go (suc (suc zero)) l h = omega arith
-    go (suc (suc (suc n))) l h = absurd (omega arith)
+  pub no-head : length p < 2 → length s < at + 2
+  no-head h = omega (arith, head-length, length-take 2 (drop at s), length-drop at s)
+
+  pub head : 2 ≤ length p → at + 2 ≤ length s
+  head h = omega (arith, head-length, length-take 2 (drop at s), length-drop at s)
+
+  pub length-is : {r : ℕ} → r ≡ pick (leb (length p) 8) (bigEndian p) 0 → r ≡ lengthAt s at
+  length-is q = q ∙ ap (λ (l : List ℕ). pick (leb (length l) 8) (bigEndian l) 0) e ∙ number-field s at 2 (omega arith)
+
+  pub length-small : {r : ℕ} → r < 256 ^ length p → r < 65536
+  length-small {r} h = go (length p) (omega (arith, head-length, length-take 2 (drop at s))) h
+    where
+      go : (n : ℕ) → n ≤ 2 → r < 256 ^ n → r < 65536
+      go zero l h = omega arith
+      go (suc zero) l h = omega arith
+      go (suc (suc zero)) l h = omega arith
+      go (suc (suc (suc n))) l h = absurd (omega arith)
 
 -- ---- the field at a place
 

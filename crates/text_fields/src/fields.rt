@@ -5,8 +5,7 @@ use crate::TextList;
 use texts::Text;
 ghost use mathlib.Core.Path.{_≡_};
 ghost use mathlib.Core.Bool.{_&&_};
-ghost use Prim.Native.Nat.{_<_};
-ghost use Rattle.text_fields.specs.Fields.{lengthAt, fieldAt, entries, isMaybe, isEmpty, isList};
+ghost use Rattle.text_fields.specs.Fields.{fieldAt, entries, isMaybe, isEmpty, isList};
 
 // What stands at a place: no field, a whole one with its text, or a faulty one.
 pub enum Field {
@@ -21,26 +20,16 @@ pub enum Entries {
     Broken(Fault),
 }
 
-// The length that a field states; a byte past the end is none.
-fn length_at(s: &[u8], at: usize) -> usize
-    ensures { λ r. ⌜ r ≡ lengthAt (now (s .entry)) at ⌝ }
-    ensures { λ r. ⌜ r < 65536 ⌝ }
-{
-    octets::number(texts::part(s, at, 2)) as usize
-}
-
 pub(crate) fn field_at(s: &[u8], at: usize) -> Field
     ensures { λ r. ⌜ r ≡ fieldAt (now (s .entry)) at ⌝ }
 {
     let n = s.len();
-    if n < 2 {
+    let head = texts::part(s, at, 2);
+    if head.len() < 2 {
         return Field::Absent;
     }
-    if n - 2 < at {
-        return Field::Absent;
-    }
+    let len = octets::number(head) as usize;
     let place = at + 2;
-    let len = length_at(s, at);
     let end = place + len;
     if n < end {
         return Field::Faulty(Fault::Past { end, len: n });

@@ -1,27 +1,36 @@
 -- `text_fields::fields::field_at` meets its contract: by what is left, then by the length, then by the text.
 use native.Mathlib.Omega.{arith}
-use Rattle.text_fields.proofs.Runs.{absent, past, garbled, whole-there}
+use Rattle.text_fields.proofs.Runs.{no-head, head, length-is, length-small, absent, past, garbled, whole-there}
 use borrow.Author.Needs.{needs}
 use Rattle.text_fields.proofs.fields.field_at.Statement.{statement}
 use Rattle.text_fields.proofs.fields.field_at.Tie as tie
 
-returns : tie.Need-returns
-returns c = absent _ _ (omega arith)
+part-requires : tie.Need-part-requires
+part-requires c κs = search needs
 
-returns-2 : tie.Need-returns-2
-returns-2 c = absent _ _ (omega arith)
+returns : tie.Need-returns
+returns c = absent _ _ (no-head _ _ (c .before .part .ensures) (c .if1 .taken))
+
+number-requires : tie.Need-number-requires
+number-requires c κs = search needs
 
 add-place : tie.Need-add-place
-add-place c = search needs
-
-length-at-requires : tie.Need-length-at-requires
-length-at-requires c κs = search needs
+add-place c =
+    let a = c .before .before .before .before .args in
+    omega (arith, head (a .s .now) (a .at) (c .before .before .part .ensures) (c .before .if1 .left))
 
 add-end : tie.Need-add-end
-add-end c = search needs
+add-end c =
+    let a = c .before .before .before .before .args in
+    let p = c .before .before .part .ensures in
+    omega (arith, head (a .s .now) (a .at) p (c .before .if1 .left), length-small (a .s .now) (a .at) p (c .number .ensures .1))
 
-returns-3 : tie.Need-returns-3
-returns-3 c = past _ _ (c .before .length-at .ensures .0) (omega arith) (omega arith)
+returns-2 : tie.Need-returns-2
+returns-2 c =
+    let n = c .before in
+    let a = n .before .before .before .before .args in
+    let p = n .before .before .part .ensures in
+    past _ _ (length-is (a .s .now) (a .at) p (n .number .ensures .0)) (head (a .s .now) (a .at) p (n .before .if1 .left)) (c .if2 .taken)
 
 sub-well-formed : tie.Need-sub-well-formed
 sub-well-formed c = search needs
@@ -35,29 +44,37 @@ part-well-formed-end c = search needs
 well-formed-requires : tie.Need-well-formed-requires
 well-formed-requires c κs = search needs
 
-add-t14 : tie.Need-add-t14
-add-t14 c = search needs
+add-t16 : tie.Need-add-t16
+add-t16 c = search needs
+
+returns-3 : tie.Need-returns-3
+returns-3 c =
+    let n = c .before .before .before .before in
+    let a = n .before .before .before .before .args in
+    let p = n .before .before .part .ensures in
+    garbled _ _ (length-is (a .s .now) (a .at) p (n .number .ensures .0)) (head (a .s .now) (a .at) p (n .before .if1 .left)) (c .before .well-formed .ensures .0) (omega arith) (c .if3 .taken)
 
 returns-4 : tie.Need-returns-4
-returns-4 c = garbled _ _ (c .before .before .before .before .length-at .ensures .0) (omega arith) (c .before .well-formed .ensures .0) (omega arith) (omega arith)
-
-returns-5 : tie.Need-returns-5
-returns-5 c = whole-there _ _ (c .before .before .before .before .length-at .ensures .0) (omega arith) (c .before .well-formed .ensures .0) (omega arith) (omega arith)
+returns-4 c =
+    let n = c .before .before .before .before in
+    let a = n .before .before .before .before .args in
+    let p = n .before .before .part .ensures in
+    whole-there _ _ (length-is (a .s .now) (a .at) p (n .number .ensures .0)) (head (a .s .now) (a .at) p (n .before .if1 .left)) (c .before .well-formed .ensures .0) (omega arith) (c .if3 .left)
 
 pub field-at-spec : {M : Type 1} → statement M
 field-at-spec =
     tie.close
     (tie.spec
+    part-requires
     returns
-    returns-2
+    number-requires
     add-place
-    length-at-requires
     add-end
-    returns-3
+    returns-2
     sub-well-formed
     part-well-formed-start
     part-well-formed-end
     well-formed-requires
-    add-t14
-    returns-4
-    returns-5)
+    add-t16
+    returns-3
+    returns-4)
