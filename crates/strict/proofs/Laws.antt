@@ -5,7 +5,7 @@ use mathlib.Core.Bool.{Bool, true, false, not}
 use mathlib.Core.List.{List}
 use lib.Dec.{eqb, eqb·suc-zero}
 use Rattle.octets.specs.Octets.{presence}
-use Rattle.pfd_contents.specs.PfdContents.{textsFrom}
+use Rattle.text_fields.specs.Fields.{textsFrom}
 use Rattle.strict.specs.Strict.{present, filled}
 
 pub present-is : {A : Type 0} (given : Bool) (x : A) → present (presence given x) ≡ given

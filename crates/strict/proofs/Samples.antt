@@ -10,7 +10,7 @@ use Rattle.fseid.specs.Fseid as fseid
 use Rattle.node_id.specs.NodeId as node
 use Rattle.outer_header_creation.specs.OuterHeaderCreation as ohc
 use Rattle.pfd_contents.specs.PfdContents as pfd
-use Rattle.pfd_contents.specs.PfdContents.{text, list, entries, fieldAt, textMeaning, listMeaning, textsFrom, textWire, listWire, fieldOf}
+use Rattle.text_fields.specs.Fields.{text, list, entries, fieldAt, textMeaning, listMeaning, textsFrom, textWire, listWire, fieldOf}
 use Rattle.strict.specs.Strict.{verdict, complete}
 use Rattle.strict.specs.Samples.{Sample, saidBy, marked}
 

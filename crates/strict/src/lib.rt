@@ -16,31 +16,18 @@ ghost use Rattle.octets.specs.Octets.{bit};
 ghost use Rattle.pfd_contents.specs.PfdContents.{meaning};
 ghost use Rattle.strict.specs.Strict.{ueIpAddress, fTeid, fSeid, nodeId, outerHeaderCreation, pfdContents, complete};
 
-// Tests without branches.
-fn both(a: bool, b: bool) -> bool
-    ensures { λ r. ⌜ r ≡ a && b ⌝ }
-{
-    if a { b } else { false }
-}
-
-fn either(a: bool, b: bool) -> bool
-    ensures { λ r. ⌜ r ≡ a || b ⌝ }
-{
-    if a { true } else { b }
-}
-
 // No if the reader refused, else what the kind asks.
 fn judged(answer: Answer, asked: bool) -> bool
     ensures { λ r. ⌜ r ≡ eqb (numberOf answer) 0 && asked ⌝ }
 {
-    both(answer.number() == 0, asked)
+    octets::both(answer.number() == 0, asked)
 }
 
 // Whether all was well before, and what bit k of the flags announces is there.
 fn kept(before: bool, flags: u8, k: u8, there: bool) -> bool
     ensures { λ r. ⌜ r ≡ before && (not (bit k flags) || there) ⌝ }
 {
-    both(before, either(!octets::bit(flags, k), there))
+    octets::both(before, octets::either(!octets::bit(flags, k), there))
 }
 
 // Whether all that the flags announce is there.
@@ -81,7 +68,7 @@ pub fn f_teid(payload: &[u8]) -> bool
     let read = Fteid::unmarshal(payload);
     let answer = read.answer;
     let tunnel = read.record;
-    judged(answer, either(tunnel.v4, tunnel.v6))
+    judged(answer, octets::either(tunnel.v4, tunnel.v6))
 }
 
 pub fn fseid(payload: &[u8]) -> bool
@@ -90,7 +77,7 @@ pub fn fseid(payload: &[u8]) -> bool
     let read = Fseid::unmarshal(payload);
     let answer = read.answer;
     let session = read.record;
-    judged(answer, either(session.v4, session.v6))
+    judged(answer, octets::either(session.v4, session.v6))
 }
 
 pub fn node_id(payload: &[u8]) -> bool

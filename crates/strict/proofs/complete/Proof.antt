@@ -1,7 +1,7 @@
 -- `strict::complete` meets its contract: the eight tests in a row, of what the record means.
 use borrow.Author.Needs.{needs}
 use Rattle.pfd_contents.specs.PfdContents.{meaning}
-use Rattle.pfd_contents.specs.PfdContents.{textMeaning, listMeaning}
+use Rattle.text_fields.specs.Fields.{textMeaning, listMeaning}
 use Rattle.strict.specs.Strict as spec
 use Rattle.strict.proofs.Laws.{present-is, filled-is}
 use Rattle.strict.proofs.complete.Statement.{statement}
