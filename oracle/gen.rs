@@ -12,6 +12,9 @@
 //!
 //! --open leaves out the byte that ends the last line. --list makes a short list of small lines, to keep.
 
+#[path = "gen/texts.rs"]
+mod texts;
+
 use std::io::Write;
 
 // ---------------------------------------------------------------- random numbers
@@ -76,6 +79,10 @@ impl Random {
 /// A field of a payload: whether a first byte has it sent, and its width.
 type Field = (fn(u8) -> bool, usize);
 
+/// In place of a value's bytes: a text, and texts with commas between them.
+const TEXT: usize = usize::MAX;
+const LIST: usize = TEXT - 1;
+
 /// A record line: its first word, and its keys with the bytes of their values, none for a bare key.
 struct Call {
     head: &'static str,
@@ -95,9 +102,21 @@ struct Kind {
     calls: &'static [Call],
     /// The calls of its builder, each with the bytes of its value.
     builder: &'static [(&'static str, usize)],
+    /// Of a kind that holds texts.
+    texts: Option<Texts>,
 }
 
-const KINDS: [Kind; 5] = [
+/// What a kind that holds texts has besides.
+struct Texts {
+    /// A payload of so many bytes, good or broken near its end.
+    long: fn(&mut Random, usize, bool) -> Vec<u8>,
+    /// Payloads that come after those of every first byte and length.
+    edges: fn() -> Vec<Vec<u8>>,
+    /// Record lines that always come.
+    lines: &'static [&'static str],
+}
+
+const KINDS: [Kind; 7] = [
     Kind {
         letter: b'U',
         longest: 22,
@@ -116,6 +135,7 @@ const KINDS: [Kind; 5] = [
             Call { head: "U.choose", keys: &[("ch4", 0), ("ch6", 0)], flags: 0 },
         ],
         builder: &[],
+        texts: None,
     },
     Kind {
         letter: b'F',
@@ -141,6 +161,7 @@ const KINDS: [Kind; 5] = [
             Call { head: "F.choose_dual_stack", keys: &[("teid", 4), ("v4", 4), ("v6", 16)], flags: 0 },
         ],
         builder: &[("teid", 4), ("v4", 4), ("v6", 16), ("dual", 20), ("ch4", 0), ("ch6", 0), ("chdual", 0), ("cid", 1)],
+        texts: None,
     },
     Kind {
         letter: b'S',
@@ -155,6 +176,7 @@ const KINDS: [Kind; 5] = [
             Call { head: "S.new", keys: &[("seid", 8), ("v4", 4), ("v6", 16)], flags: 0 },
         ],
         builder: &[],
+        texts: None,
     },
     Kind {
         letter: b'O',
@@ -196,6 +218,91 @@ const KINDS: [Kind; 5] = [
             Call { head: "O.flags.udp_ipv6", keys: &[], flags: 0 },
         ],
         builder: &[],
+        texts: None,
+    },
+    Kind {
+        letter: b'N',
+        longest: 17,
+        good: texts::good_node_id,
+        samples: &[
+            "02", "03", "0261C3", "00C0000201", "00C00002", "00C0000201FF", "01", "0120010DB8000000000000000000000001", "0261",
+            "020161", "020361626300", "02036162", "0280", "10C0000201", "0200", "02C3A9", "FF", "026100C3A9ED9FBF",
+        ],
+        calls: &[
+            Call { head: "N", keys: &[("v4", 4), ("v6", 16), ("name", TEXT)], flags: 0 },
+            Call { head: "N.new_ipv4", keys: &[("v4", 4), ("v6", 16), ("name", TEXT)], flags: 0 },
+            Call { head: "N.new_ipv6", keys: &[("v6", 16), ("v4", 4), ("name", TEXT)], flags: 0 },
+            Call { head: "N.new_fqdn", keys: &[("name", TEXT), ("v4", 4), ("v6", 16)], flags: 0 },
+            // with one key alone more often
+            Call { head: "N", keys: &[("v4", 4)], flags: 0 },
+            Call { head: "N", keys: &[("v6", 16)], flags: 0 },
+            Call { head: "N", keys: &[("name", TEXT)], flags: 0 },
+            Call { head: "N.new_ipv4", keys: &[("v4", 4)], flags: 0 },
+            Call { head: "N.new_ipv6", keys: &[("v6", 16)], flags: 0 },
+            Call { head: "N.new_fqdn", keys: &[("name", TEXT)], flags: 0 },
+        ],
+        builder: &[],
+        texts: Some(Texts {
+            long: texts::long_node_id,
+            edges: texts::node_id_edges,
+            lines: &[
+                "N", "N name=-", "N name=61", "N name=C3", "N name=61*3", "N.new_fqdn name=-", "N.new_fqdn", "N.new_ipv4",
+                "N.new", "N.fqdn name=61", "N v4=C0000201 name=61", "N name=61 name=62", "N.raw", "N.raw name=0+0",
+                "N.raw slice=61 name=0+1", "N.raw slice=61 name=0+2", "N.raw slice=61 name=1+0", "N.raw slice=61 name=2+0",
+                "N.raw slice=C3A9 name=0+1", "N.raw slice=C3A9 name=0+2 room=2", "N.raw slice=C3A9 name=0+2 room=3",
+                "N.raw slice=61 name=1", "N.raw slice=61 name=0+", "N.raw slice=61 name=+1", "N.raw slice=61 name=0+1 v4=C0000201",
+                "N.read", "N.read slice=02,61", "N.read slice=02,61 brief", "N.read slice=-", "N.read slice=", "N.read brief",
+            ],
+        }),
+    },
+    Kind {
+        letter: b'P',
+        longest: 9,
+        good: texts::good_pfd,
+        samples: &[
+            "010005", "6000000161000162000163", "0100000261", "20000000", "0000", "00", "0100", "01", "FF00", "01000001C3",
+            "03000001C3FFFF", "0100FFFF", "01000001", "2000000400026630", "2000000161", "1000000161", "E0000001610001620001630001",
+            "E000000161000162000163000164", "A000000161000162000163", "C0FF000161000162000163", "4000000161000162", "0100000161FF",
+            "1F000001610001620001630001640001650000", "FF00000161000162000163000164000165000166000167000168000169",
+        ],
+        calls: &[
+            Call { head: "P", keys: &PFD_KEYS, flags: 0xFF },
+            Call { head: "P.flow_description", keys: &PFD_MADE, flags: 0 },
+            Call { head: "P.url", keys: &PFD_MADE, flags: 0 },
+            Call { head: "P.domain_name", keys: &PFD_MADE, flags: 0 },
+            Call { head: "P.flow_and_url", keys: &PFD_MADE, flags: 0 },
+            Call { head: "P.domain_and_protocol", keys: &PFD_MADE, flags: 0 },
+            // with just the keys that the call takes
+            Call { head: "P.flow_description", keys: &[("fd", TEXT)], flags: 0 },
+            Call { head: "P.url", keys: &[("url", TEXT)], flags: 0 },
+            Call { head: "P.domain_name", keys: &[("dn", TEXT)], flags: 0 },
+            Call { head: "P.flow_and_url", keys: &[("fd", TEXT), ("url", TEXT)], flags: 0 },
+            Call { head: "P.domain_and_protocol", keys: &[("dn", TEXT), ("dnp", TEXT)], flags: 0 },
+        ],
+        builder: &[
+            ("fd", TEXT), ("url", TEXT), ("dn", TEXT), ("cp", TEXT), ("dnp", TEXT), ("afd", LIST), ("aurl", LIST), ("adnp", LIST),
+            ("afd+", TEXT), ("aurl+", TEXT), ("adnp+", TEXT),
+        ],
+        texts: Some(Texts {
+            long: texts::long_pfd,
+            edges: texts::pfd_edges,
+            lines: &[
+                "P", "P.build", "P fd=-", "P fd=", "P fd=61", "P fd=C3", "P afd=", "P afd=-", "P afd=-,-", "P afd=61,", "P afd=,61",
+                "P afd+=61", "P fd+=61", "P.build fd=", "P.build fd+=61", "P.build afd=", "P.build afd", "P.build afd+=",
+                "P.build afd+=-", "P.build afd+=61,62", "P.build afd=61,62 afd+=63", "P.build afd+=61 afd=", "P.build fd=C3 fd=61",
+                "P.build fd=61 fd=C3", "P.build afd=C3 afd=61", "P.build afd=C3 afd+=61", "P.build afd+=C3 afd=61", "P.build flags=01",
+                "P.build url=C3 afd+=C3", "P.build afd+=61 aurl+=62 afd+=63 aurl+=64", "P.build fd=61 fd=62", "P.build.",
+                "P.flow_description fd=61 url=62", "P.flow_description fd=", "P.flow_description", "P.flow_and_url fd=61",
+                "P.custom_pfd_content cp=61", "P.url url=C3", "P flags=01 fd=61*3", "P flags=FF", "P.raw", "P.raw_build",
+                "P.raw afd=0+0*0", "P.raw afd=9+0*0", "P.raw afd=0+0*1", "P.raw fd=0+0", "P.raw fd=1+0",
+                "P.raw slice=000161 afd=0+3*1", "P.raw slice=000161 afd=0+3*2", "P.raw slice=000161 afd=0+2*1",
+                "P.raw slice=000161 afd=0+3*0", "P.raw slice=00016100 afd=0+4*1", "P.raw slice=000161 afd=0+3*1 room=4",
+                "P.raw_build slice=000161,000162 afd+=0 afd+=3", "P.raw_build slice=000161,000162 afd+=0 afd+=2",
+                "P.raw_build slice=000161,000162 afd+=3 afd+=0", "P.raw_build slice=000161,000162 afd=0+3*1 afd+=3",
+                "P.raw_build slice=000161,000162 afd=0+2*1 afd+=3", "P.raw_build afd+=0", "P.raw_build fd+=0", "P.raw_build fd=0+0",
+                "P.read", "P.read slice=6000000161000162000163", "P.read slice=60,00,000161000162000163 brief", "P.read slice=-",
+            ],
+        }),
     },
     Kind {
         letter: b'T',
@@ -207,8 +314,15 @@ const KINDS: [Kind; 5] = [
         samples: &["61C3", "C3A9", "EDA080", "F48FBFBF"],
         calls: &[],
         builder: &[],
+        texts: None,
     },
 ];
+
+const PFD_KEYS: [(&str, usize); 9] = [
+    ("flags", 1), ("fd", TEXT), ("url", TEXT), ("dn", TEXT), ("cp", TEXT), ("dnp", TEXT), ("afd", LIST), ("aurl", LIST),
+    ("adnp", LIST),
+];
+const PFD_MADE: [(&str, usize); 5] = [("fd", TEXT), ("url", TEXT), ("dn", TEXT), ("cp", TEXT), ("dnp", TEXT)];
 
 /// The fields that the first byte has sent, the first byte at their front.
 fn fixed(r: &mut Random, first: u8, fields: &[Field]) -> Vec<u8> {
@@ -358,7 +472,11 @@ struct Payloads<'a> {
 
 impl<'a> Payloads<'a> {
     fn new(kind: &'a Kind, pairs: usize, short: bool) -> Self {
-        let edges = if kind.letter == b'T' && !short { edge_texts() } else { Vec::new() };
+        let edges = match &kind.texts {
+            Some(t) => (t.edges)(),
+            None if kind.letter == b'T' && !short => edge_texts(),
+            None => Vec::new(),
+        };
         Payloads { kind, pairs, short, edges }
     }
 
@@ -397,17 +515,22 @@ impl<'a> Payloads<'a> {
     }
 
     fn counted(&self) -> usize {
+        self.lengths() + self.edges.len()
+    }
+
+    /// How many pairs of a first byte and a length there are, and the empty payload.
+    fn lengths(&self) -> usize {
         match self.kind.letter {
-            b'T' => self.edges.len(),
+            b'T' => 0,
             _ => 1 + 256 * (self.kind.longest + 3),
         }
     }
 
-    /// Every length up to a little above the longest form, with every first byte.
+    /// Every length up to a little above the longest form, with every first byte; then the edges of texts.
     fn counted_line(&self, i: usize, r: &mut Random) -> Vec<u8> {
-        let payload = match (self.kind.letter, i) {
-            (b'T', _) => self.edges[i].clone(),
-            (_, 0) => Vec::new(),
+        let payload = match i {
+            _ if i >= self.lengths() => self.edges[i - self.lengths()].clone(),
+            0 => Vec::new(),
             _ => {
                 let mut p = r.bytes(1 + (i - 1) / 256);
                 p[0] = (i - 1) as u8;
@@ -476,6 +599,7 @@ impl<'a> Payloads<'a> {
     fn long_line(&self, r: &mut Random) -> Vec<u8> {
         let letter = self.kind.letter;
         let n = match r.below(200) {
+            0..=39 if self.pairs > 4_096 && self.kind.texts.is_some() => r.between(4_097, 65_536),
             0..=99 => r.below(4_097),
             100..=179 => r.between(4_094, 4_099),
             180..=184 if self.pairs > 4_096 => r.between(4_097, self.pairs),
@@ -484,8 +608,12 @@ impl<'a> Payloads<'a> {
             190..=191 => return self.very_long(r),
             _ => r.between(2_000, 4_100),
         };
-        let payload = match letter {
-            b'T' => any_long_text(r, n),
+        let payload = match (letter, &self.kind.texts) {
+            (b'T', _) => any_long_text(r, n),
+            (_, Some(t)) => {
+                let good = r.one_in(2);
+                (t.long)(r, n, good)
+            }
             _ => {
                 let mut p = (self.kind.good)(r);
                 let had = p.len().min(n);
@@ -600,6 +728,9 @@ impl Records<'_> {
         for line in [format!("{small}.new"), format!("{small} flags=01"), format!("{k}{k} flags=01"), format!(" {k}.new")] {
             all.push(line.into_bytes());
         }
+        if let Some(t) = &self.kind.texts {
+            all.extend(t.lines.iter().map(|l| l.as_bytes().to_vec()));
+        }
         all
     }
 
@@ -621,8 +752,14 @@ impl Records<'_> {
     fn builder_tokens(&self, calls: &[usize], r: &mut Random) -> Vec<Token> {
         let token = |i: &usize| {
             let (key, width) = self.kind.builder[*i];
-            let bytes = r.bytes(width);
-            let mut value = hex(r, &bytes);
+            let mut value = match width {
+                TEXT => texts::text_value(r),
+                LIST => texts::list_value(r),
+                _ => {
+                    let bytes = r.bytes(width);
+                    hex(r, &bytes)
+                }
+            };
             if key == "dual" {
                 value.insert(8, b',');
             }
@@ -677,16 +814,23 @@ impl Records<'_> {
             0..=6 => {}
             7 => {
                 let mut line = self.builder_line(&tokens);
-                spoil_words(r, &mut line, "F.build");
+                spoil_words(r, &mut line, &format!("{}.build", self.kind.letter as char), self.kind.heads());
                 return without_ends(line);
             }
             _ if tokens.is_empty() => {}
-            _ => spoil_token(r, &mut tokens, self.short),
+            _ => spoil_token(r, &mut tokens, self.short, self.kind),
         }
         without_ends(self.builder_line(&tokens))
     }
 
     fn random_line(&self, r: &mut Random) -> Vec<u8> {
+        if self.kind.texts.is_some() {
+            match r.below(400) {
+                0 if !self.short => return texts::big_line(r, self.kind.letter),
+                1..=120 => return without_ends(texts::raw_line(r, self.kind.letter)),
+                _ => {}
+            }
+        }
         if !self.kind.builder.is_empty() && r.one_in(2) {
             return self.random_build(r);
         }
@@ -702,10 +846,10 @@ impl Records<'_> {
         }
         if r.one_in(3) || tokens.is_empty() {
             let mut line = c.line(&tokens);
-            spoil_words(r, &mut line, c.head);
+            spoil_words(r, &mut line, c.head, self.kind.heads());
             return without_ends(line);
         }
-        spoil_token(r, &mut tokens, self.short);
+        spoil_token(r, &mut tokens, self.short, self.kind);
         c.line(&tokens)
     }
 }
@@ -734,6 +878,11 @@ impl Call {
         order
             .map(|i| {
                 let (key, width) = self.keys[i];
+                match width {
+                    TEXT => return (key.to_string(), "=", texts::text_value(r)),
+                    LIST => return (key.to_string(), "=", texts::list_value(r)),
+                    _ => {}
+                }
                 let mut value = r.bytes(width);
                 if key == "flags" && !r.one_in(6) {
                     value[0] &= self.flags;
@@ -762,16 +911,33 @@ fn line_of_words(head: &str, tokens: &[Token]) -> Vec<u8> {
     line
 }
 
+impl Kind {
+    /// Ends of first words, of this kind's calls and of others.
+    fn heads(&self) -> &'static [&'static str] {
+        match self.texts {
+            None => &FIXED_HEADS,
+            Some(_) => &TEXT_HEADS,
+        }
+    }
+}
+
+const FIXED_HEADS: [&str; 27] = [
+    ".", "=", ".new", ".New", ".ne", ".newer", ".new.new", "  ", " .", " =", "\t", ".choose", ".build", ".ipv4", ".ipv6",
+    ".dual_stack", ".choose_ipv4", ".choose_dual", ".new_with_choose", ".gtpu_ipv4", ".udp_ipv4", ".udp_ipv6", ".flags",
+    ".flags.", ".flags.new", ".flags.ipv4", ".default",
+];
+
+const TEXT_HEADS: [&str; 26] = [
+    ".", "=", ".new", ".new_ipv4", ".new_ipv6", ".new_fqdn", ".new_fqd", "  ", " .", " =", "\t", ".build", ".Build", ".builder",
+    ".raw", ".raw_build", ".read", ".flow_description", ".url", ".domain_name", ".flow_and_url", ".domain_and_protocol", ".urls",
+    ".custom_pfd_content", ".fd", ".build.build",
+];
+
 /// Changes the words of a record line, whatever they say.
-fn spoil_words(r: &mut Random, line: &mut Vec<u8>, head: &str) {
-    let heads = [
-        ".", "=", ".new", ".New", ".ne", ".newer", ".new.new", "  ", " .", " =", "\t", ".choose", ".build", ".ipv4", ".ipv6",
-        ".dual_stack", ".choose_ipv4", ".choose_dual", ".new_with_choose", ".gtpu_ipv4", ".udp_ipv4", ".udp_ipv6", ".flags",
-        ".flags.", ".flags.new", ".flags.ipv4", ".default",
-    ];
+fn spoil_words(r: &mut Random, line: &mut Vec<u8>, head: &str, heads: &[&str]) {
     match r.below(6) {
         0 => {
-            let new = [&head.as_bytes()[..1], r.pick(&heads).as_bytes()].concat();
+            let new = [&head.as_bytes()[..1], r.pick(heads).as_bytes()].concat();
             line.splice(..head.len(), new);
         }
         1 => line[0] = *r.pick(b"UFSNOPHBTufsnop.= "),
@@ -793,8 +959,14 @@ const KEYS: [&str; 21] = [
     "ch6", "chdual", "dual",
 ];
 
+/// Keys of the kinds that hold texts, and some of none.
+const TEXT_KEYS: [&str; 24] = [
+    "v4", "v6", "name", "flags", "fd", "url", "dn", "cp", "dnp", "afd", "aurl", "adnp", "afd+", "aurl+", "adnp+", "fd+", "", "d",
+    "af", "slice", "room", "brief", "teid", "afd++",
+];
+
 /// Changes one token: its key, its sign, its value, or how often it is there.
-fn spoil_token(r: &mut Random, tokens: &mut Vec<Token>, short: bool) {
+fn spoil_token(r: &mut Random, tokens: &mut Vec<Token>, short: bool, kind: &Kind) {
     let at = r.below(tokens.len());
     let (key, op, value) = &mut tokens[at];
     match r.below(12) {
@@ -813,6 +985,7 @@ fn spoil_token(r: &mut Random, tokens: &mut Vec<Token>, short: bool) {
             let i = r.below(value.len());
             value[i] = *r.pick(b"gG:/@`-+ .,=*xX\0\x7f\x80\xff");
         }
+        8 if kind.texts.is_some() => *key = r.pick(&TEXT_KEYS).to_string(),
         8 => *key = r.pick(&KEYS).to_string(),
         9 => *key = key.to_uppercase(),
         10 => {
@@ -826,6 +999,7 @@ fn spoil_token(r: &mut Random, tokens: &mut Vec<Token>, short: bool) {
             let n = *r.pick(&[1_000, 60_000, 65_590, 65_600, 90_000]);
             *value = hex(&mut Random(n as u64), &vec![0xA5; n]);
         }
+        _ if kind.texts.is_some() => *value = r.pick(&texts::ODD_TEXTS).as_bytes().to_vec(),
         _ => *value = r.pick(&["-", "*2", "00*2", "\"00\"", "0x00", "1.2.3.4", "::"]).as_bytes().to_vec(),
     }
 }
@@ -869,7 +1043,10 @@ impl<'a> Sequence<'a> {
             fixed.push(format!("{} {sample}", kind.letter as char).into_bytes());
         }
         for n in p.limits() {
-            let mut payload = (kind.good)(&mut r);
+            let mut payload = match &kind.texts {
+                Some(t) => (t.long)(&mut r, n, true),
+                None => (kind.good)(&mut r),
+            };
             payload.resize(n, b'a');
             fixed.push(line_of(&mut r, kind.letter, &payload));
         }

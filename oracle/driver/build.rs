@@ -1,6 +1,7 @@
 //! Record lines: a plain record, a constructor or a chain of builder calls, then the writer.
 
 use super::line::{hex, unhex};
+use super::raw;
 use super::record::Record;
 use super::refusal::by_word;
 use super::{Options, OTHER};
@@ -19,21 +20,26 @@ use std::net::{Ipv4Addr, Ipv6Addr};
 
 /// Why there is no record.
 #[derive(Debug)]
-enum Fault {
+pub enum Fault {
     Other,          // the line is of no known form
     Text(u32),      // 6: no Rust String can hold the text of this field
     Rule(u32),      // 9: a builder's rule
     TooLong(usize), // 5, only with --limit
+    TooWide,        // 7, only of raw lines
+    NoRoom(usize),  // 8, only of raw lines
 }
 
-type Made<T> = Result<T, Fault>;
+pub type Made<T> = Result<T, Fault>;
 
 pub fn answer(o: &Options, line: &[u8], out: &mut String) {
-    let made = match std::str::from_utf8(line) {
-        Ok(text) if line.first().map_or(false, |k| o.takes(*k)) => record(o, text),
-        _ => Err(Fault::Other),
+    let text = match std::str::from_utf8(line) {
+        Ok(text) if line.first().map_or(false, |k| o.takes(*k)) => text,
+        _ => return out.push_str(OTHER),
     };
-    match made {
+    if let Some(answered) = raw::answer(o, text, out) {
+        return answered.unwrap_or_else(|fault| refused(fault, out));
+    }
+    match record(o, text) {
         Ok(r) => {
             let w = r.marshal();
             if o.limit && w.len() > 65_535 {
@@ -42,23 +48,31 @@ pub fn answer(o: &Options, line: &[u8], out: &mut String) {
                 write!(out, "0 {} {} | {}", w.len(), hex(&w), r.fields(false)).unwrap();
             }
         }
-        Err(Fault::Other) => out.push_str(OTHER),
-        Err(Fault::Text(field)) => write!(out, "6 {field} -").unwrap(),
-        Err(Fault::Rule(rule)) => write!(out, "9 {rule} -").unwrap(),
-        Err(Fault::TooLong(len)) => write!(out, "5 {len} -").unwrap(),
+        Err(fault) => refused(fault, out),
+    }
+}
+
+fn refused(fault: Fault, out: &mut String) {
+    match fault {
+        Fault::Other => out.push_str(OTHER),
+        Fault::Text(field) => write!(out, "6 {field} -").unwrap(),
+        Fault::Rule(rule) => write!(out, "9 {rule} -").unwrap(),
+        Fault::TooLong(len) => write!(out, "5 {len} -").unwrap(),
+        Fault::TooWide => write!(out, "7 0 -").unwrap(),
+        Fault::NoRoom(needed) => write!(out, "8 {needed} -").unwrap(),
     }
 }
 
 // ---- tokens
 
 /// A token between two spaces.
-struct Token<'a> {
-    key: &'a str,
-    op: &'a str, // "", "=" or "+="
-    val: &'a str,
+pub struct Token<'a> {
+    pub key: &'a str,
+    pub op: &'a str, // "", "=" or "+="
+    pub val: &'a str,
 }
 
-fn token(text: &str) -> Token<'_> {
+pub fn token(text: &str) -> Token<'_> {
     match text.split_once('=') {
         None => Token { key: text, op: "", val: "" },
         Some((key, val)) => match key.strip_suffix('+') {
@@ -69,10 +83,10 @@ fn token(text: &str) -> Token<'_> {
 }
 
 /// Tokens of known keys, each there at most once.
-struct Fields<'a>(Vec<Token<'a>>);
+pub struct Fields<'a>(Vec<Token<'a>>);
 
 impl<'a> Fields<'a> {
-    fn new(tokens: Vec<Token<'a>>, known: &[&str]) -> Made<Self> {
+    pub fn new(tokens: Vec<Token<'a>>, known: &[&str]) -> Made<Self> {
         for (i, t) in tokens.iter().enumerate() {
             let again = tokens[..i].iter().any(|u| u.key == t.key);
             if t.op == "+=" || again || !known.contains(&t.key) {
@@ -90,11 +104,11 @@ impl<'a> Fields<'a> {
         }
     }
 
-    fn get(&self, key: &str) -> Made<Option<&'a str>> {
+    pub fn get(&self, key: &str) -> Made<Option<&'a str>> {
         self.find(key, "=")
     }
 
-    fn bare(&self, key: &str) -> Made<bool> {
+    pub fn bare(&self, key: &str) -> Made<bool> {
         Ok(self.find(key, "")?.is_some())
     }
 
@@ -102,7 +116,7 @@ impl<'a> Fields<'a> {
         self.get(key)?.map(|v| num(v, bytes)).transpose()
     }
 
-    fn num_or_0(&self, key: &str, bytes: usize) -> Made<u64> {
+    pub fn num_or_0(&self, key: &str, bytes: usize) -> Made<u64> {
         Ok(self.num(key, bytes)?.unwrap_or(0))
     }
 
@@ -115,7 +129,7 @@ impl<'a> Fields<'a> {
     }
 }
 
-fn needed<T>(x: Option<T>) -> Made<T> {
+pub fn needed<T>(x: Option<T>) -> Made<T> {
     x.ok_or(Fault::Other)
 }
 
@@ -143,51 +157,65 @@ fn ipv6(val: &str) -> Made<Ipv6Addr> {
 /// `all_good` then refuses the line, once it is known that the line is of a known form.
 struct Texts {
     limit: bool,
-    /// The length of the first text above the limit.
-    long: Option<usize>,
+    /// How many bytes all texts of the line have in a slice that is lent, the entries of lists in wire form.
+    total: usize,
     /// The lowest field number with a text that isn't UTF-8.
     bad: Option<u32>,
 }
 
 impl Texts {
     fn new(o: &Options) -> Self {
-        Texts { limit: o.limit, long: None, bad: None }
+        Texts { limit: o.limit, total: 0, bad: None }
     }
 
-    /// `-` is the empty text, HEX its bytes, HEX*N those bytes N times.
-    fn one(&mut self, field: u32, val: &str) -> Made<String> {
+    /// `-` is the empty text, HEX its bytes, HEX*N those bytes N times. None where they aren't UTF-8.
+    fn text(&mut self, val: &str) -> Made<Option<String>> {
         let bytes = if val == "-" { Vec::new() } else { repeated(val)? };
-        if self.limit && bytes.len() > 65_535 {
-            self.long = self.long.or(Some(bytes.len()));
-        }
-        Ok(String::from_utf8(bytes).unwrap_or_else(|_| {
-            self.bad = Some(self.bad.map_or(field, |f| f.min(field)));
-            String::new()
-        }))
-    }
-
-    fn optional(&mut self, field: u32, val: Option<&str>) -> Made<Option<String>> {
-        val.map(|v| self.one(field, v)).transpose()
+        self.total += bytes.len();
+        Ok(String::from_utf8(bytes).ok())
     }
 
     /// Texts with commas between them; nothing is the empty list.
+    fn texts(&mut self, val: &str) -> Made<Option<Vec<String>>> {
+        let vals: Vec<&str> = if val.is_empty() { Vec::new() } else { val.split(',').collect() };
+        self.total += 2 * vals.len();
+        let texts: Made<Vec<Option<String>>> = vals.iter().map(|v| self.text(v)).collect();
+        Ok(texts?.into_iter().collect())
+    }
+
+    /// What there is of a field, and a note where it can't be.
+    fn noted<T: Default>(&mut self, field: u32, x: Option<T>) -> T {
+        x.unwrap_or_else(|| {
+            self.bad = Some(self.bad.map_or(field, |f| f.min(field)));
+            T::default()
+        })
+    }
+
+    fn optional(&mut self, field: u32, val: Option<&str>) -> Made<Option<String>> {
+        let Some(val) = val else { return Ok(None) };
+        let text = self.text(val)?;
+        Ok(Some(self.noted(field, text)))
+    }
+
     fn list(&mut self, field: u32, val: &str) -> Made<Vec<String>> {
-        if val.is_empty() {
-            return Ok(Vec::new());
+        let texts = self.texts(val)?;
+        Ok(self.noted(field, texts))
+    }
+
+    fn all_fit(&self) -> Made<()> {
+        if self.limit && self.total > 65_535 {
+            return Err(Fault::TooLong(self.total));
         }
-        val.split(',').map(|v| self.one(field, v)).collect()
+        Ok(())
     }
 
     fn all_good(&self) -> Made<()> {
-        match (self.long, self.bad) {
-            (Some(len), _) => Err(Fault::TooLong(len)),
-            (None, Some(field)) => Err(Fault::Text(field)),
-            (None, None) => Ok(()),
-        }
+        self.all_fit()?;
+        self.bad.map_or(Ok(()), |field| Err(Fault::Text(field)))
     }
 }
 
-fn repeated(val: &str) -> Made<Vec<u8>> {
+pub fn repeated(val: &str) -> Made<Vec<u8>> {
     let (digits, times) = val.split_once('*').unwrap_or((val, "1"));
     if !times.bytes().all(|c| c.is_ascii_digit()) {
         return Err(Fault::Other);
@@ -215,7 +243,7 @@ fn ohc_flags(x: u8) -> OuterHeaderCreationFlags {
 }
 
 /// The paper's number of the rule by which a builder refuses.
-fn rule(e: PfcpError) -> Fault {
+pub fn rule(e: PfcpError) -> Fault {
     let PfcpError::ValidationError { builder, field, reason } = &e else {
         panic!("an error that the driver doesn't know: {e:?}")
     };
@@ -231,9 +259,9 @@ fn rule(e: PfcpError) -> Fault {
 
 // ---- the lines
 
-const PFD_KEYS: [&str; 8] = ["fd", "url", "dn", "cp", "dnp", "afd", "aurl", "adnp"];
+pub const PFD_KEYS: [&str; 8] = ["fd", "url", "dn", "cp", "dnp", "afd", "aurl", "adnp"];
 
-fn pfd_field(i: usize) -> u32 {
+pub fn pfd_field(i: usize) -> u32 {
     11 + i as u32
 }
 
@@ -493,23 +521,34 @@ fn pfd_made(o: &Options, call: &str, tokens: Vec<Token>) -> Made<PfdContents> {
     made.map_err(rule)
 }
 
-/// The tokens are the builder's calls, in order: `=` sets a text or a whole list, `+=` adds to a list.
+/// The tokens are the builder's calls, in order: `=` sets a text or a whole list, `+=` adds to a list. What is set may
+/// be set anew, so a text that isn't UTF-8 is refused where an entry is added to its list, or where it stands at the end.
 fn pfd_built(o: &Options, tokens: Vec<Token>) -> Made<PfdContents> {
     let mut texts = Texts::new(o);
     let mut calls = Vec::new();
     for t in &tokens {
         let i = needed(PFD_KEYS.iter().position(|k| *k == t.key))?;
         let strings = match (t.op, i >= 5) {
-            ("=", true) => texts.list(pfd_field(i), t.val)?,
-            ("=", false) | ("+=", true) => vec![texts.one(pfd_field(i), t.val)?],
+            ("=", true) => texts.texts(t.val)?,
+            ("=", false) => texts.text(t.val)?.map(|s| vec![s]),
+            ("+=", true) => {
+                texts.total += 2;
+                texts.text(t.val)?.map(|s| vec![s])
+            }
             _ => return Err(Fault::Other),
         };
-        calls.push((t.key, t.op, strings));
+        calls.push((i, t.op, strings));
     }
-    texts.all_good()?;
+    texts.all_fit()?;
+    let mut bad = [false; 8];
     let mut b = PfdContents::builder();
-    for (key, op, mut s) in calls {
-        b = match (key, op) {
+    for (i, op, strings) in calls {
+        if op == "+=" && (bad[i] || strings.is_none()) {
+            return Err(Fault::Text(pfd_field(i)));
+        }
+        bad[i] = strings.is_none();
+        let mut s = strings.unwrap_or_else(|| vec![String::new()]);
+        b = match (PFD_KEYS[i], op) {
             ("fd", _) => b.flow_description(s.remove(0)),
             ("url", _) => b.url(s.remove(0)),
             ("dn", _) => b.domain_name(s.remove(0)),
@@ -522,6 +561,9 @@ fn pfd_built(o: &Options, tokens: Vec<Token>) -> Made<PfdContents> {
             ("aurl", _) => b.additional_urls(s),
             (_, _) => b.additional_domain_names_and_protocols(s),
         };
+    }
+    if let Some(i) = bad.iter().position(|is_bad| *is_bad) {
+        return Err(Fault::Text(pfd_field(i)));
     }
     b.build().map_err(rule)
 }

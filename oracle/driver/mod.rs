@@ -9,6 +9,7 @@ mod header;
 mod ies;
 mod line;
 mod payload;
+mod raw;
 mod record;
 mod refusal;
 

@@ -9,14 +9,20 @@ use std::fmt::Write;
 pub fn answer(o: &Options, line: &[u8], out: &mut String) {
     match payload_of(line, o.max_pairs) {
         Some((b'T', p)) if o.takes(b'T') => text(&p, out),
-        Some((kind, p)) if b"UFSNOP".contains(&kind) && o.takes(kind) => match within(o, &p) {
-            Err(r) => refused(o, &r, out),
-            Ok(()) => match read(kind, &p) {
-                Ok(r) => accepted(o, &r, out),
-                Err(e) => refused(o, &refusal(kind, &p, &e, o.full), out),
-            },
-        },
+        Some((kind, p)) if b"UFSNOP".contains(&kind) && o.takes(kind) => of_kind(o, kind, &p, false, out),
         _ => out.push_str(OTHER),
+    }
+}
+
+/// The answer of a payload; `brief` leaves out what an accepted one is written as, and its fields.
+pub fn of_kind(o: &Options, kind: u8, p: &[u8], brief: bool, out: &mut String) {
+    match within(o, p) {
+        Err(r) => refused(o, &r, out),
+        Ok(()) => match read(kind, p) {
+            Ok(r) if brief => write!(out, "0 {} -", r.marshal().len()).unwrap(),
+            Ok(r) => accepted(o, &r, out),
+            Err(e) => refused(o, &refusal(kind, p, &e, o.full), out),
+        },
     }
 }
 
