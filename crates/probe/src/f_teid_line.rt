@@ -1,12 +1,15 @@
 // F-TEID: the answers of its payloads, its record lines, and the lines of its builder.
 use crate::parts::after;
+use crate::parts::both;
 use crate::parts::part;
 use crate::print;
 use crate::token;
+use answer::Answer;
 use f_teid::Fteid;
 use f_teid::FteidBuilder;
 use octets::MaybeIpv4;
 use octets::MaybeIpv6;
+use octets::MaybeU8;
 use types::Teid;
 
 fn flags(out: &mut [u8], at: usize, record: Fteid) -> usize {
@@ -51,14 +54,14 @@ fn written(record: Fteid, wire: &mut [u8], out: &mut [u8], at: usize) -> usize {
     fields(out, end, record)
 }
 
-// The tokens of a line with flags. It is good where it has no others.
+// The tokens of a line that isn't the builder's. It is good where it has no others.
 struct Given {
     is_good: bool,
-    flags: u8,
+    flags: MaybeU8,
     teid: Teid,
     ipv4_address: MaybeIpv4,
     ipv6_address: MaybeIpv6,
-    choose_id: u8,
+    choose_id: MaybeU8,
 }
 
 fn tokens(line: &[u8]) -> Given {
@@ -74,11 +77,11 @@ fn tokens(line: &[u8]) -> Given {
         + octets::under(choose_id.given, 1);
     Given {
         is_good: token::has_all(line, values),
-        flags: flags.value,
+        flags,
         teid: Teid(teid.value),
         ipv4_address,
         ipv6_address,
-        choose_id: choose_id.value,
+        choose_id,
     }
 }
 
@@ -88,115 +91,97 @@ fn plain(t: Given) -> Fteid {
     let ipv4_address = t.ipv4_address;
     let ipv6_address = t.ipv6_address;
     Fteid {
-        v4: octets::bit(t.flags, 0),
-        v6: octets::bit(t.flags, 1),
-        ch: octets::bit(t.flags, 2),
-        chid: octets::bit(t.flags, 3),
+        v4: octets::bit(t.flags.value, 0),
+        v6: octets::bit(t.flags.value, 1),
+        ch: octets::bit(t.flags.value, 2),
+        chid: octets::bit(t.flags.value, 3),
         teid,
         ipv4_address,
         ipv6_address,
-        choose_id: t.choose_id,
+        choose_id: t.choose_id.value,
     }
 }
 
 fn made(t: Given) -> Fteid {
     Fteid::new(
-        octets::bit(t.flags, 0),
-        octets::bit(t.flags, 1),
+        octets::bit(t.flags.value, 0),
+        octets::bit(t.flags.value, 1),
         t.teid,
         t.ipv4_address,
         t.ipv6_address,
-        t.choose_id,
+        t.choose_id.value,
     )
 }
 
 fn made_with_choose(t: Given) -> Fteid {
     Fteid::new_with_choose(
-        octets::bit(t.flags, 0),
-        octets::bit(t.flags, 1),
-        octets::bit(t.flags, 2),
-        octets::bit(t.flags, 3),
+        octets::bit(t.flags.value, 0),
+        octets::bit(t.flags.value, 1),
+        octets::bit(t.flags.value, 2),
+        octets::bit(t.flags.value, 3),
         t.teid,
         t.ipv4_address,
         t.ipv6_address,
-        t.choose_id,
+        t.choose_id.value,
     )
 }
 
-// The record of a line with flags, up to the greatest that its call takes.
-fn flagged(line: &[u8], most: u8, wire: &mut [u8], out: &mut [u8], at: usize) -> usize {
-    let t = tokens(line);
-    if !t.is_good {
-        return print::other(out, at);
-    }
-    if most < t.flags {
-        return print::other(out, at);
-    }
-    if check::same(token::head(line), b"F.new") {
-        return written(made(t), wire, out, at);
-    }
-    if check::same(token::head(line), b"F.new_with_choose") {
-        return written(made_with_choose(t), wire, out, at);
-    }
-    written(plain(t), wire, out, at)
+// The number of a call; the builder's is 9.
+fn call_of(line: &[u8]) -> usize {
+    token::index(
+        b"F F.new F.new_with_choose F.ipv4 F.ipv6 F.dual_stack F.choose_ipv4 F.choose_ipv6 F.choose_dual_stack F.build",
+        token::head(line),
+    )
 }
 
-// A ready-made record without an address.
-fn chosen(head: &[u8], teid: Teid, wire: &mut [u8], out: &mut [u8], at: usize) -> usize {
-    if check::same(head, b"F.choose_ipv4") {
-        return written(Fteid::choose_ipv4(teid), wire, out, at);
-    }
-    if check::same(head, b"F.choose_ipv6") {
-        return written(Fteid::choose_ipv6(teid), wire, out, at);
-    }
-    if check::same(head, b"F.choose_dual_stack") {
-        return written(Fteid::choose_dual_stack(teid), wire, out, at);
-    }
-    print::other(out, at)
+// Which keys besides the TEID a line has: 1 for IPv4, 2 for IPv6, 4 for flags, 8 for the choose ID.
+fn keys(t: Given) -> u8 {
+    octets::flag_byte(
+        t.ipv4_address.given,
+        t.ipv6_address.given,
+        t.flags.given,
+        t.choose_id.given,
+        false,
+        false,
+        false,
+        false,
+    )
 }
 
-// A ready-made record with addresses, where the line names the call that takes just these.
-fn of_call(
-    line: &[u8],
-    call: &[u8],
-    record: Fteid,
-    wire: &mut [u8],
-    out: &mut [u8],
-    at: usize,
-) -> usize {
-    if check::same(token::head(line), call) {
-        return written(record, wire, out, at);
+// Whether a call takes the keys of a line and its flags.
+fn is_taken(call: usize, keys: u8, flags: u8) -> bool {
+    match call {
+        0 | 2 => flags < 16,
+        1 => flags < 4,
+        3 => keys == 1,
+        4 => keys == 2,
+        5 => keys == 3,
+        6 | 7 | 8 => keys == 0,
+        _ => false,
     }
-    print::other(out, at)
 }
 
 // A ready-made record.
-fn ready(line: &[u8], wire: &mut [u8], out: &mut [u8], at: usize) -> usize {
-    let number = token::maybe_u32(line, b"teid=");
-    let v4 = token::ipv4(line);
-    let v6 = token::ipv6(line);
-    let addresses = octets::under(v4.given, 1) + octets::under(v6.given, 2);
-    let values = octets::under(number.given, 1)
-        + octets::under(v4.given, 1)
-        + octets::under(v6.given, 1);
-    if !token::has_all(line, values) {
-        return print::other(out, at);
+fn ready(t: Given, call: usize) -> Fteid {
+    let teid = t.teid;
+    let ipv4 = t.ipv4_address.octets;
+    let ipv6 = t.ipv6_address.octets;
+    match call {
+        3 => Fteid::ipv4(teid, ipv4),
+        4 => Fteid::ipv6(teid, ipv6),
+        5 => Fteid::dual_stack(teid, ipv4, ipv6),
+        6 => Fteid::choose_ipv4(teid),
+        7 => Fteid::choose_ipv6(teid),
+        _ => Fteid::choose_dual_stack(teid),
     }
-    let teid = Teid(number.value);
-    let octets4 = v4.octets;
-    let octets6 = v6.octets;
-    match addresses {
-        0 => chosen(token::head(line), teid, wire, out, at),
-        1 => of_call(line, b"F.ipv4", Fteid::ipv4(teid, octets4), wire, out, at),
-        2 => of_call(line, b"F.ipv6", Fteid::ipv6(teid, octets6), wire, out, at),
-        _ => of_call(
-            line,
-            b"F.dual_stack",
-            Fteid::dual_stack(teid, octets4, octets6),
-            wire,
-            out,
-            at,
-        ),
+}
+
+fn record_of(t: Given, call: usize) -> Fteid {
+    match call {
+        0 => plain(t),
+        1 => made(t),
+        2 => made_with_choose(t),
+        _ => ready(t, call),
     }
 }
 
@@ -289,32 +274,47 @@ fn all_calls(line: &[u8]) -> Calls {
     calls
 }
 
-fn built(line: &[u8], wire: &mut [u8], out: &mut [u8], at: usize) -> usize {
-    let made = all_calls(line);
-    if !made.is_good {
-        return print::other(out, at);
-    }
-    let builder = made.builder;
+// What a line asks for: a record, or the refusal of the builder.
+struct Asked {
+    is_good: bool,
+    answer: Answer,
+    record: Fteid,
+}
+
+fn asked_of_builder(line: &[u8]) -> Asked {
+    let calls = all_calls(line);
+    let builder = calls.builder;
     let built = builder.build();
     let answer = built.answer;
-    if answer.number() != 0 {
-        return print::unmade(out, at, answer);
+    let record = built.record;
+    Asked {
+        is_good: calls.is_good,
+        answer,
+        record,
     }
-    written(built.record, wire, out, at)
+}
+
+fn asked_of(line: &[u8]) -> Asked {
+    let call = call_of(line);
+    if call == 9 {
+        return asked_of_builder(line);
+    }
+    let t = tokens(line);
+    Asked {
+        is_good: both(t.is_good, is_taken(call, keys(t), t.flags.value)),
+        answer: Answer::Done,
+        record: record_of(t, call),
+    }
 }
 
 pub(crate) fn record(line: &[u8], wire: &mut [u8], out: &mut [u8], at: usize) -> usize {
-    if check::same(token::head(line), b"F") {
-        return flagged(line, 15, wire, out, at);
+    let asked = asked_of(line);
+    if !asked.is_good {
+        return print::other(out, at);
     }
-    if check::same(token::head(line), b"F.new") {
-        return flagged(line, 3, wire, out, at);
+    let answer = asked.answer;
+    if answer.number() != 0 {
+        return print::unmade(out, at, answer);
     }
-    if check::same(token::head(line), b"F.new_with_choose") {
-        return flagged(line, 15, wire, out, at);
-    }
-    if check::same(token::head(line), b"F.build") {
-        return built(line, wire, out, at);
-    }
-    ready(line, wire, out, at)
+    written(asked.record, wire, out, at)
 }

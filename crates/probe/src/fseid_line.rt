@@ -1,4 +1,5 @@
 // F-SEID: the answers of its payloads and its record lines.
+use crate::parts::both;
 use crate::parts::part;
 use crate::print;
 use crate::token;
@@ -69,42 +70,40 @@ fn tokens(line: &[u8]) -> Given {
 }
 
 // The record as its tokens have it.
-fn plain(t: Given, wire: &mut [u8], out: &mut [u8], at: usize) -> usize {
-    if 3 < t.flags {
-        return print::other(out, at);
-    }
+fn plain(t: Given) -> Fseid {
     let seid = t.seid;
     let ipv4_address = t.ipv4_address;
     let ipv6_address = t.ipv6_address;
-    let record = Fseid {
+    Fseid {
         v6: octets::bit(t.flags, 0),
         v4: octets::bit(t.flags, 1),
         seid,
         ipv4_address,
         ipv6_address,
-    };
-    written(record, wire, out, at)
+    }
 }
 
-// The record of the constructor, which takes no flags.
-fn made(t: Given, wire: &mut [u8], out: &mut [u8], at: usize) -> usize {
-    if t.has_flags {
-        return print::other(out, at);
+fn record_of(t: Given, call: usize) -> Fseid {
+    if call == 0 {
+        return plain(t);
     }
-    let record = Fseid::new(t.seid, t.ipv4_address, t.ipv6_address);
-    written(record, wire, out, at)
+    Fseid::new(t.seid, t.ipv4_address, t.ipv6_address)
+}
+
+// Whether a call takes the flags of a line; the constructor takes none.
+fn is_taken(call: usize, has_flags: bool, flags: u8) -> bool {
+    match call {
+        0 => flags < 4,
+        1 => !has_flags,
+        _ => false,
+    }
 }
 
 pub(crate) fn record(line: &[u8], wire: &mut [u8], out: &mut [u8], at: usize) -> usize {
     let t = tokens(line);
-    if !t.is_good {
+    let call = token::index(b"S S.new", token::head(line));
+    if !both(t.is_good, is_taken(call, t.has_flags, t.flags)) {
         return print::other(out, at);
     }
-    if check::same(token::head(line), b"S") {
-        return plain(t, wire, out, at);
-    }
-    if check::same(token::head(line), b"S.new") {
-        return made(t, wire, out, at);
-    }
-    print::other(out, at)
+    written(record_of(t, call), wire, out, at)
 }

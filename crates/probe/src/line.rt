@@ -1,9 +1,11 @@
 // The answer of one line, put at a place of the output: a payload line, or a record line where `=` or `.` is in it.
 use crate::f_teid_line;
 use crate::fseid_line;
+use crate::node_id_line;
 use crate::ohc_line;
 use crate::parts::has;
 use crate::parts::part;
+use crate::pfd_line;
 use crate::print;
 use crate::ue_ip_line;
 
@@ -28,20 +30,23 @@ pub(crate) fn answer(
         return print::other(out, at);
     }
     if has(line, b'=') {
-        return record_line(line, wire, out, at);
+        return record_line(line, payload, wire, out, at);
     }
     if has(line, b'.') {
-        return record_line(line, wire, out, at);
+        return record_line(line, payload, wire, out, at);
     }
     payload_line(line, payload, wire, out, at)
 }
 
-fn record_line(line: &[u8], wire: &mut [u8], out: &mut [u8], at: usize) -> usize {
+// The texts of a record are laid into the buffer that payload lines are read into.
+fn record_line(line: &[u8], texts: &mut [u8], wire: &mut [u8], out: &mut [u8], at: usize) -> usize {
     match first(line) {
         b'U' => ue_ip_line::record(line, wire, out, at),
         b'F' => f_teid_line::record(line, wire, out, at),
         b'S' => fseid_line::record(line, wire, out, at),
+        b'N' => node_id_line::record(line, texts, wire, out, at),
         b'O' => ohc_line::record(line, wire, out, at),
+        b'P' => pfd_line::record(line, texts, wire, out, at),
         _ => print::other(out, at),
     }
 }
@@ -78,7 +83,9 @@ fn by_letter(letter: u8, bs: &[u8], wire: &mut [u8], out: &mut [u8], at: usize) 
         b'U' => ue_ip_line::payload(bs, wire, out, at),
         b'F' => f_teid_line::payload(bs, wire, out, at),
         b'S' => fseid_line::payload(bs, wire, out, at),
+        b'N' => node_id_line::payload(bs, false, wire, out, at),
         b'O' => ohc_line::payload(bs, wire, out, at),
+        b'P' => pfd_line::payload(bs, false, wire, out, at),
         b'T' => text_payload(bs, out, at),
         _ => print::other(out, at),
     }

@@ -1,9 +1,13 @@
 // Answers each line of the standard input, a payload or a record, with every detail. Input of any length takes constant memory.
 mod f_teid_line;
 mod fseid_line;
+mod laid;
 mod line;
+mod node_id_line;
 mod ohc_line;
 mod parts;
+mod pfd_asked;
+mod pfd_line;
 mod print;
 mod token;
 mod ue_ip_line;
@@ -182,7 +186,7 @@ fn answer_all(input: &mut [u8], payload: &mut [u8], wire: &mut [u8], output: &mu
 
 fn main() {
     let mut input = [0u8; 262144];
-    let mut payload = [0u8; 65600];
+    let mut payload = [0u8; 131072];
     let mut wire = [0u8; 65535];
     let mut output = [0u8; 400000];
     answer_all(&mut input, &mut payload, &mut wire, &mut output);

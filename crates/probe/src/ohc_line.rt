@@ -1,4 +1,6 @@
 // Outer Header Creation: the answers of its payloads and its record lines.
+use crate::parts::both;
+use crate::parts::either;
 use crate::parts::part;
 use crate::print;
 use crate::token;
@@ -176,90 +178,65 @@ fn keys(t: Given) -> u8 {
     )
 }
 
-// A constructor's record, where the line names it.
-fn of_call(
-    line: &[u8],
-    call: &[u8],
-    record: OuterHeaderCreation,
-    wire: &mut [u8],
-    out: &mut [u8],
-    at: usize,
-) -> usize {
-    if !check::same(token::head(line), call) {
-        return print::other(out, at);
-    }
-    written(record, wire, out, at)
+// The number of a call: 0 a plain record, the constructors below 5, then flag sets.
+fn call_of(line: &[u8]) -> usize {
+    token::index(
+        b"O O.new O.gtpu_ipv4 O.gtpu_ipv6 O.udp_ipv4 O.flags.new O.flags.default O.flags.gtpu_ipv4 O.flags.gtpu_ipv6 O.flags.udp_ipv4 O.flags.udp_ipv6",
+        token::head(line),
+    )
 }
 
-// The record of a constructor, by the keys that it takes, then the tags.
-fn made(line: &[u8], t: Given, wire: &mut [u8], out: &mut [u8], at: usize) -> usize {
+// Whether a call takes the keys of a line; a flag set takes no tags either.
+fn is_taken(call: usize, keys: u8, has_tag: bool) -> bool {
+    match call {
+        0 => true,
+        1 => keys == 1,
+        2 => keys == 6,
+        3 => keys == 10,
+        4 => keys == 20,
+        5..=10 => both(keys == 0, !has_tag),
+        _ => false,
+    }
+}
+
+fn flag_set(call: usize) -> OuterHeaderCreationFlags {
+    match call {
+        5 => OuterHeaderCreationFlags::new(),
+        7 => OuterHeaderCreationFlags::gtpu_ipv4(),
+        8 => OuterHeaderCreationFlags::gtpu_ipv6(),
+        9 => OuterHeaderCreationFlags::udp_ipv4(),
+        10 => OuterHeaderCreationFlags::udp_ipv6(),
+        _ => OuterHeaderCreationFlags::EMPTY,
+    }
+}
+
+// The record of a constructor, before its tags.
+fn ready(t: Given, call: usize) -> OuterHeaderCreation {
     let teid = t.teid.value;
     let ipv4 = t.ipv4_address.octets;
     let ipv6 = t.ipv6_address.octets;
-    let port = t.port_number.value;
-    match keys(t) {
-        1 => {
-            let record = OuterHeaderCreation::new(flags_of(t.flags.value));
-            of_call(line, b"O.new", tagged(line, t, record), wire, out, at)
-        }
-        6 => {
-            let record = OuterHeaderCreation::gtpu_ipv4(teid, ipv4);
-            of_call(line, b"O.gtpu_ipv4", tagged(line, t, record), wire, out, at)
-        }
-        10 => {
-            let record = OuterHeaderCreation::gtpu_ipv6(teid, ipv6);
-            of_call(line, b"O.gtpu_ipv6", tagged(line, t, record), wire, out, at)
-        }
-        20 => {
-            let record = OuterHeaderCreation::udp_ipv4(ipv4, port);
-            of_call(line, b"O.udp_ipv4", tagged(line, t, record), wire, out, at)
-        }
-        _ => print::other(out, at),
+    match call {
+        1 => OuterHeaderCreation::new(flags_of(t.flags.value)),
+        2 => OuterHeaderCreation::gtpu_ipv4(teid, ipv4),
+        3 => OuterHeaderCreation::gtpu_ipv6(teid, ipv6),
+        4 => OuterHeaderCreation::udp_ipv4(ipv4, t.port_number.value),
+        _ => OuterHeaderCreation::new(flag_set(call)),
     }
 }
 
-fn of_flags(
-    description: OuterHeaderCreationFlags,
-    wire: &mut [u8],
-    out: &mut [u8],
-    at: usize,
-) -> usize {
-    written(OuterHeaderCreation::new(description), wire, out, at)
-}
-
-// The record of a flag set alone, which takes no tokens.
-fn flag_set(line: &[u8], wire: &mut [u8], out: &mut [u8], at: usize) -> usize {
-    if check::same(line, b"O.flags.new") {
-        return of_flags(OuterHeaderCreationFlags::new(), wire, out, at);
+fn record_of(line: &[u8], t: Given, call: usize) -> OuterHeaderCreation {
+    if call == 0 {
+        return plain(t);
     }
-    if check::same(line, b"O.flags.default") {
-        return of_flags(OuterHeaderCreationFlags::EMPTY, wire, out, at);
-    }
-    if check::same(line, b"O.flags.gtpu_ipv4") {
-        return of_flags(OuterHeaderCreationFlags::gtpu_ipv4(), wire, out, at);
-    }
-    if check::same(line, b"O.flags.gtpu_ipv6") {
-        return of_flags(OuterHeaderCreationFlags::gtpu_ipv6(), wire, out, at);
-    }
-    if check::same(line, b"O.flags.udp_ipv4") {
-        return of_flags(OuterHeaderCreationFlags::udp_ipv4(), wire, out, at);
-    }
-    if check::same(line, b"O.flags.udp_ipv6") {
-        return of_flags(OuterHeaderCreationFlags::udp_ipv6(), wire, out, at);
-    }
-    print::other(out, at)
+    tagged(line, t, ready(t, call))
 }
 
 pub(crate) fn record(line: &[u8], wire: &mut [u8], out: &mut [u8], at: usize) -> usize {
     let t = tokens(line);
-    if !t.is_good {
+    let call = call_of(line);
+    let has_tag = either(t.ctag.given, t.stag.given);
+    if !both(t.is_good, is_taken(call, keys(t), has_tag)) {
         return print::other(out, at);
     }
-    if check::same(token::head(line), b"O") {
-        return written(plain(t), wire, out, at);
-    }
-    if keys(t) == 0 {
-        return flag_set(line, wire, out, at);
-    }
-    made(line, t, wire, out, at)
+    written(record_of(line, t, call), wire, out, at)
 }

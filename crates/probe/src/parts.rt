@@ -21,6 +21,14 @@ pub(crate) fn least(a: usize, b: usize) -> usize
     if a < b { a } else { b }
 }
 
+pub(crate) fn both(a: bool, b: bool) -> bool {
+    if a { b } else { false }
+}
+
+pub(crate) fn either(a: bool, b: bool) -> bool {
+    if a { true } else { b }
+}
+
 pub(crate) fn part(s: &[u8], from: usize, to: usize) -> &[u8] {
     if to < from {
         return &s[..0];

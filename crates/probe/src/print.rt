@@ -1,6 +1,8 @@
 // What answers are made of. Each function puts text at a place of the output, and returns the place behind it.
 use crate::parts::after;
+use crate::parts::part;
 use answer::Answer;
+use answer::Written;
 use octets::MaybeIpv4;
 use octets::MaybeIpv6;
 use octets::MaybeU8;
@@ -39,12 +41,19 @@ pub(crate) fn flag(out: &mut [u8], at: usize, name: &[u8], is_set: bool) -> usiz
 }
 
 // A field's bytes in hex, a dash where it is absent.
-fn field(out: &mut [u8], at: usize, name: &[u8], given: bool, bs: &[u8]) -> usize {
+pub(crate) fn field(out: &mut [u8], at: usize, name: &[u8], given: bool, bs: &[u8]) -> usize {
     let end = text(out, at, name);
     if given {
         return digits(out, end, bs);
     }
     text(out, end, b"-")
+}
+
+// A text's bytes in hex, between quotes.
+pub(crate) fn quoted(out: &mut [u8], at: usize, bs: &[u8]) -> usize {
+    let end = text(out, at, b"\"");
+    let end = digits(out, end, bs);
+    text(out, end, b"\"")
 }
 
 // A number of eight bytes, in hex.
@@ -107,6 +116,50 @@ pub(crate) fn done(out: &mut [u8], at: usize, count: usize, wire: &[u8]) -> usiz
     let end = decimal(out, at, b"0 ", count);
     let end = field(out, end, b" ", true, wire);
     text(out, end, b" | ")
+}
+
+// The answer of what is accepted where only its length is asked for.
+pub(crate) fn brief(out: &mut [u8], at: usize, count: usize) -> usize {
+    let end = decimal(out, at, b"0 ", count);
+    text(out, end, b" -\n")
+}
+
+// The answer of a record whose texts have places.
+pub(crate) fn placed(
+    out: &mut [u8],
+    at: usize,
+    written: Written,
+    wire: &[u8],
+    is_brief: bool,
+) -> usize {
+    let answer = written.answer;
+    if answer.number() != 0 {
+        return unmade(out, at, answer);
+    }
+    if is_brief {
+        return brief(out, at, written.len);
+    }
+    let end = decimal(out, at, b"0 ", written.len);
+    let end = field(out, end, b" ", true, part(wire, 0, written.len));
+    end_of_line(out, end)
+}
+
+// Whether a record isn't written, but for one that would be too long, whose fields can still be shown.
+pub(crate) fn is_refused(written: Written) -> bool {
+    let answer = written.answer;
+    match answer.number() {
+        0 | 7 => false,
+        _ => true,
+    }
+}
+
+// The answer of such a record, up to the bar before its fields.
+pub(crate) fn begun(out: &mut [u8], at: usize, written: Written, wire: &[u8]) -> usize {
+    let answer = written.answer;
+    if answer.number() != 0 {
+        return text(out, at, b"7 0 - | ");
+    }
+    done(out, at, written.len, part(wire, 0, written.len))
 }
 
 // The answer of a payload that is refused.

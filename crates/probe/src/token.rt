@@ -1,5 +1,6 @@
 // Words of a record line: one space stands between two of them.
 use crate::parts::after;
+use crate::parts::both;
 use crate::parts::part;
 use octets::MaybeIpv4;
 use octets::MaybeIpv6;
@@ -8,10 +9,10 @@ use octets::MaybeU16;
 use octets::MaybeU32;
 
 // Where a key's words stand: how many there are, and the value of the last.
-struct Found {
-    count: usize,
-    from: usize,
-    to: usize,
+pub(crate) struct Found {
+    pub count: usize,
+    pub from: usize,
+    pub to: usize,
 }
 
 fn starts_with(word: &[u8], key: &[u8]) -> bool {
@@ -22,7 +23,7 @@ fn starts_with(word: &[u8], key: &[u8]) -> bool {
 }
 
 // The words that begin with a key.
-fn find(line: &[u8], key: &[u8]) -> Found {
+pub(crate) fn find(line: &[u8], key: &[u8]) -> Found {
     let mut count = 0;
     let mut from = 0;
     let mut to = 0;
@@ -38,6 +39,93 @@ fn find(line: &[u8], key: &[u8]) -> Found {
             return Found { count, from, to };
         }
         at = end + 1;
+    }
+}
+
+// The number of a word in a list of words; how many these are where it isn't there.
+pub(crate) fn index(list: &[u8], word: &[u8]) -> usize {
+    let mut count = 0;
+    let mut at = 0;
+    loop {
+        let end = bytes::scan::find(list, at, list.len(), b' ');
+        if check::same(part(list, at, end), word) {
+            return count;
+        }
+        count = after(count, 1);
+        if end == list.len() {
+            return count;
+        }
+        at = end + 1;
+    }
+}
+
+// A number in decimal, where it is one.
+pub(crate) struct Number {
+    pub is_good: bool,
+    pub value: usize,
+}
+
+// What a digit is worth, 10 for any other byte.
+fn worth(b: u8) -> usize {
+    if b < b'0' {
+        return 10;
+    }
+    if b'9' < b {
+        return 10;
+    }
+    (b - b'0') as usize
+}
+
+// A number with a further digit, where it still fits.
+fn with_digit(x: Number, b: u8) -> Number {
+    let digit = worth(b);
+    let value = x.value;
+    if 9 < digit {
+        return Number {
+            is_good: false,
+            value: 0,
+        };
+    }
+    if (usize::MAX - digit) / 10 < value {
+        return Number {
+            is_good: false,
+            value: 0,
+        };
+    }
+    Number {
+        is_good: x.is_good,
+        value: value * 10 + digit,
+    }
+}
+
+pub(crate) fn number_of(text: &[u8]) -> Number {
+    let mut x = Number {
+        is_good: text.len() != 0,
+        value: 0,
+    };
+    let mut i = 0;
+    while i < text.len() {
+        x = with_digit(x, text[i]);
+        i += 1;
+    }
+    x
+}
+
+// A place and a length, with a sign between them.
+pub(crate) struct Span {
+    pub is_good: bool,
+    pub place: usize,
+    pub len: usize,
+}
+
+pub(crate) fn span_of(value: &[u8]) -> Span {
+    let sign = bytes::scan::find(value, 0, value.len(), b'+');
+    let place = number_of(part(value, 0, sign));
+    let len = number_of(part(value, after(sign, 1), value.len()));
+    Span {
+        is_good: both(place.is_good, len.is_good),
+        place: place.value,
+        len: len.value,
     }
 }
 

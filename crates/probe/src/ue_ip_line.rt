@@ -1,7 +1,11 @@
 // UE IP Address: the answers of its payloads and its record lines.
+use crate::parts::both;
 use crate::parts::part;
 use crate::print;
 use crate::token;
+use octets::MaybeIpv4;
+use octets::MaybeIpv6;
+use octets::MaybeU8;
 use ue_ip_address::UeIpAddress;
 
 fn address_flags(out: &mut [u8], at: usize, record: UeIpAddress) -> usize {
@@ -53,73 +57,104 @@ fn written(record: UeIpAddress, wire: &mut [u8], out: &mut [u8], at: usize) -> u
     fields(out, end, record)
 }
 
-// The record as its tokens have it.
-fn plain(line: &[u8], wire: &mut [u8], out: &mut [u8], at: usize) -> usize {
+// The tokens of a record line. It is good where it has no others.
+struct Given {
+    is_good: bool,
+    flags: MaybeU8,
+    ipv4_address: MaybeIpv4,
+    ipv6_address: MaybeIpv6,
+    bits: MaybeU8,
+    prefix: MaybeU8,
+    choose_ipv4: bool,
+    choose_ipv6: bool,
+}
+
+fn tokens(line: &[u8]) -> Given {
     let flags = token::maybe_u8(line, b"flags=");
     let ipv4_address = token::ipv4(line);
     let ipv6_address = token::ipv6(line);
     let bits = token::maybe_u8(line, b"db=");
     let prefix = token::maybe_u8(line, b"pl=");
+    let choose_ipv4 = token::is_there(line, b"ch4");
+    let choose_ipv6 = token::is_there(line, b"ch6");
     let values = octets::under(flags.given, 1)
         + octets::under(ipv4_address.given, 1)
         + octets::under(ipv6_address.given, 1)
         + octets::under(bits.given, 1)
-        + octets::under(prefix.given, 1);
-    if !token::has_all(line, values) {
-        return print::other(out, at);
-    }
-    if 127 < flags.value {
-        return print::other(out, at);
-    }
-    let record = UeIpAddress {
-        v4: octets::bit(flags.value, 1),
-        v6: octets::bit(flags.value, 0),
-        source_destination: octets::bit(flags.value, 2),
-        ipv6_prefix_delegation: octets::bit(flags.value, 3),
-        choose_ipv4: octets::bit(flags.value, 4),
-        choose_ipv6: octets::bit(flags.value, 5),
-        ipv6_prefix_length_present: octets::bit(flags.value, 6),
+        + octets::under(prefix.given, 1)
+        + octets::under(choose_ipv4, 1)
+        + octets::under(choose_ipv6, 1);
+    Given {
+        is_good: token::has_all(line, values),
+        flags,
         ipv4_address,
         ipv6_address,
-        ipv6_prefix_delegation_bits: bits,
-        ipv6_prefix_length: prefix,
-    };
-    written(record, wire, out, at)
+        bits,
+        prefix,
+        choose_ipv4,
+        choose_ipv6,
+    }
 }
 
-// The record of the constructor, which takes addresses only.
-fn made(line: &[u8], wire: &mut [u8], out: &mut [u8], at: usize) -> usize {
-    let ipv4_address = token::ipv4(line);
-    let ipv6_address = token::ipv6(line);
-    let values = octets::under(ipv4_address.given, 1) + octets::under(ipv6_address.given, 1);
-    if !token::has_all(line, values) {
-        return print::other(out, at);
-    }
-    let record = UeIpAddress::new(ipv4_address, ipv6_address);
-    written(record, wire, out, at)
+// Which keys a line has: 1 for flags, 2 for IPv4, 4 for IPv6, 8 and 16 for the single bytes, 32 and 64 for the choices.
+fn keys(t: Given) -> u8 {
+    octets::flag_byte(
+        t.flags.given,
+        t.ipv4_address.given,
+        t.ipv6_address.given,
+        t.bits.given,
+        t.prefix.given,
+        t.choose_ipv4,
+        t.choose_ipv6,
+        false,
+    )
 }
 
-// The record of a choice: its keys have no values.
-fn chosen(line: &[u8], wire: &mut [u8], out: &mut [u8], at: usize) -> usize {
-    let ipv4 = token::is_there(line, b"ch4");
-    let ipv6 = token::is_there(line, b"ch6");
-    let values = octets::under(ipv4, 1) + octets::under(ipv6, 1);
-    if !token::has_all(line, values) {
-        return print::other(out, at);
+// Whether a call takes the keys of a line and its flags.
+fn is_taken(call: usize, keys: u8, flags: u8) -> bool {
+    match call {
+        0 => both(keys < 32, flags < 128),
+        1 => keys & 0xF9 == 0,
+        2 => keys % 32 == 0,
+        _ => false,
     }
-    let record = UeIpAddress::choose(ipv4, ipv6);
-    written(record, wire, out, at)
+}
+
+// The record as its tokens have it.
+fn plain(t: Given) -> UeIpAddress {
+    let flags = t.flags.value;
+    let ipv4_address = t.ipv4_address;
+    let ipv6_address = t.ipv6_address;
+    let ipv6_prefix_delegation_bits = t.bits;
+    let ipv6_prefix_length = t.prefix;
+    UeIpAddress {
+        v4: octets::bit(flags, 1),
+        v6: octets::bit(flags, 0),
+        source_destination: octets::bit(flags, 2),
+        ipv6_prefix_delegation: octets::bit(flags, 3),
+        choose_ipv4: octets::bit(flags, 4),
+        choose_ipv6: octets::bit(flags, 5),
+        ipv6_prefix_length_present: octets::bit(flags, 6),
+        ipv4_address,
+        ipv6_address,
+        ipv6_prefix_delegation_bits,
+        ipv6_prefix_length,
+    }
+}
+
+fn record_of(t: Given, call: usize) -> UeIpAddress {
+    match call {
+        0 => plain(t),
+        1 => UeIpAddress::new(t.ipv4_address, t.ipv6_address),
+        _ => UeIpAddress::choose(t.choose_ipv4, t.choose_ipv6),
+    }
 }
 
 pub(crate) fn record(line: &[u8], wire: &mut [u8], out: &mut [u8], at: usize) -> usize {
-    if check::same(token::head(line), b"U") {
-        return plain(line, wire, out, at);
+    let t = tokens(line);
+    let call = token::index(b"U U.new U.choose", token::head(line));
+    if !both(t.is_good, is_taken(call, keys(t), t.flags.value)) {
+        return print::other(out, at);
     }
-    if check::same(token::head(line), b"U.new") {
-        return made(line, wire, out, at);
-    }
-    if check::same(token::head(line), b"U.choose") {
-        return chosen(line, wire, out, at);
-    }
-    print::other(out, at)
+    written(record_of(t, call), wire, out, at)
 }
