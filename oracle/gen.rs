@@ -1004,12 +1004,12 @@ fn spoil_token(r: &mut Random, tokens: &mut Vec<Token>, short: bool, kind: &Kind
     }
 }
 
-// ---------------------------------------------------------------- all short texts
+// ---------------------------------------------------------------- all short payloads
 
-/// How many texts of at most three bytes there are.
-const SHORT_TEXTS: u64 = 1 + 256 + 65_536 + 16_777_216;
+/// How many payloads of at most three bytes there are.
+const SHORT_PAYLOADS: u64 = 1 + 256 + 65_536 + 16_777_216;
 
-fn short_text(mut i: u64) -> Vec<u8> {
+fn short_payload(mut i: u64) -> Vec<u8> {
     let mut n = 0;
     while i >= 1 << (8 * n) {
         i -= 1 << (8 * n);
@@ -1023,7 +1023,7 @@ fn short_text(mut i: u64) -> Vec<u8> {
 enum Source<'a> {
     Payloads(Payloads<'a>),
     Records(Records<'a>),
-    ShortTexts,
+    Short(u8),
 }
 
 /// A sequence: fixed lines, then those that are counted up, then random ones.
@@ -1060,8 +1060,8 @@ impl<'a> Sequence<'a> {
         Sequence { seed, fixed: p.fixed_lines(), counted: p.counted(), source: Source::Records(p) }
     }
 
-    fn short_texts(seed: u64) -> Self {
-        Sequence { seed, fixed: Vec::new(), counted: SHORT_TEXTS as usize, source: Source::ShortTexts }
+    fn short_payloads(letter: u8, seed: u64) -> Self {
+        Sequence { seed, fixed: Vec::new(), counted: SHORT_PAYLOADS as usize, source: Source::Short(letter) }
     }
 
     fn line(&self, i: u64) -> Vec<u8> {
@@ -1080,8 +1080,8 @@ impl<'a> Sequence<'a> {
             (Source::Payloads(p), false) => p.random_line(&mut r),
             (Source::Records(p), true) => p.counted_line(n, &mut r),
             (Source::Records(p), false) => p.random_line(&mut r),
-            (Source::ShortTexts, true) => line_of(&mut Random(0), b'T', &short_text(n as u64)),
-            (Source::ShortTexts, false) => stop("there are no more texts of at most three bytes"),
+            (Source::Short(letter), true) => line_of(&mut Random(0), *letter, &short_payload(n as u64)),
+            (Source::Short(_), false) => stop("there are no more payloads of at most three bytes"),
         }
     }
 
@@ -1137,7 +1137,7 @@ fn main() {
         "mixed" if built => {
             vec![Sequence::payloads(kind, 65_600, seed, list), Sequence::records(kind, seed, list)]
         }
-        "all" if kind.letter == b'T' => vec![Sequence::short_texts(seed)],
+        "all" => vec![Sequence::short_payloads(kind.letter, seed)],
         _ => stop(&format!("{letter} has no form {form}")),
     };
     let turns = sequences.len() as u64;
