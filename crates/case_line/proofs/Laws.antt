@@ -165,6 +165,10 @@ pub a-row : (r : LineRow) (bs : List ℕ) (o : Option Row) → rowIn r bs ≡ o 
 unfolding rowIn
 a-row r bs o e h = rw h at e
 
+-- the beginning of a list, no longer than asked
+pub take-most : (n m : ℕ) (bs : List ℕ) → n ≤ m → length (take n bs) ≤ m
+take-most n m bs h = omega (arith, length-take n bs)
+
 -- ---- the payload of a text
 pub payload-none : (text : List ℕ) → length text ≡ 0 → payload text ≡ none
 unfolding payload

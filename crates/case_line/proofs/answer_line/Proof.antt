@@ -2,10 +2,9 @@
 use native.Mathlib.Omega.{arith}
 use mathlib.Core.Path.{sym}
 use mathlib.Core.Option.{none, some}
-use lib.ListN.{length-take}
 use lib.Seq.{length-take-le}
 use Rattle.case_line.specs.Line.{shown}
-use Rattle.case_line.proofs.Laws.{puts-line, shown-most, no-row, a-row}
+use Rattle.case_line.proofs.Laws.{puts-line, shown-most, no-row, a-row, take-most}
 use borrow.Author.Needs.{needs}
 use Rattle.case_line.proofs.answer_line.Statement.{statement}
 use Rattle.case_line.proofs.answer_line.Tie as tie
@@ -23,23 +22,23 @@ slice-aggregate-put-row : tie.Need-slice-aggregate-put-row
 slice-aggregate-put-row c = sym (length-take-le _ _ (omega (arith, c .before .before .before .before .row-of-line .kept .1 .0)))
 
 put-row-requires : tie.Need-put-row-requires
-put-row-requires c κs = search needs
+put-row-requires c κs = tt
 
 same-length : tie.Need-same-length
-same-length c = search needs
+same-length c = c .before .before .put-row .kept .0
 
 returns : tie.Need-returns
 returns c =
     let p = c .before .before in
     let known = p .before .before .before in
     let r = known .before .before in
-    puts-line _ _ _ _ _ (a-row _ _ _ (r .row-of-line .ensures .0) (known .if1 .taken)) (shown-most _ _ _ (omega arith) (omega arith) (omega (arith, length-take (r .row-of-line .result .len) (r .row-of-line .last .1 .0), r .row-of-line .ensures .1))) (p .put-row .ensures)
+    puts-line _ _ _ _ _ (a-row _ _ _ (r .row-of-line .ensures .0) (known .if1 .taken)) (shown-most _ _ _ (omega arith) (omega arith) (take-most _ _ _ (r .row-of-line .ensures .1))) (p .put-row .ensures)
 
 put-other-requires : tie.Need-put-other-requires
-put-other-requires c κs = search needs
+put-other-requires c κs = tt
 
 same-length-2 : tie.Need-same-length-2
-same-length-2 c = search needs
+same-length-2 c = c .before .before .put-other .kept .0
 
 returns-2 : tie.Need-returns-2
 unfolding shown

@@ -1,10 +1,9 @@
 -- `case_line::row_of_line` meets its contract: by the letter and the space that a line begins with, and its payload.
 use native.Mathlib.Omega.{arith}
 use mathlib.Core.Path.{sym, _∙_}
-use lib.ListN.{length-take}
 use lib.Seq.{length-take-le}
 use Rattle.case_line.specs.Steps.{rowIn}
-use Rattle.case_line.proofs.Laws.{good-text, bad-text, too-short, no-space, shaped}
+use Rattle.case_line.proofs.Laws.{good-text, bad-text, too-short, no-space, shaped, take-most}
 use borrow.Author.Needs.{needs}
 use Rattle.case_line.proofs.row_of_line.Statement.{statement}
 use Rattle.case_line.proofs.row_of_line.Tie as tie
@@ -45,10 +44,12 @@ slice-aggregate-row-for : tie.Need-slice-aggregate-row-for
 slice-aggregate-row-for c = sym (length-take-le _ _ (omega (arith, c .before .before .before .before .find-payload .kept .1 .0)))
 
 row-for-requires : tie.Need-row-for-requires
-row-for-requires c κs = omega (arith, length-take (c .before .before .before .before .before .find-payload .result .len) (c .before .before .before .before .before .find-payload .last .1 .0))
+row-for-requires c κs =
+    let f = c .before .before .before .before .before in
+    rw (f .before .before .before .before .before .before .before .before .pre) (take-most _ _ _ (f .find-payload .ensures .1))
 
 same-length : tie.Need-same-length
-same-length c = search needs
+same-length c = c .before .before .row-for .kept .1 .1 .0
 
 returns-3 : tie.Need-returns-3
 returns-3 c =
