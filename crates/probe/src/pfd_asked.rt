@@ -12,6 +12,7 @@ use pfd_contents::PfdContents;
 use pfd_contents::PfdContentsAdded;
 use pfd_contents::PfdContentsBuilder;
 use pfd_contents::PfdContentsBuilt;
+use text_fields::MaybeText;
 use text_fields::TextList;
 
 // The number of a call: 0 a plain record, 1 the builder, 2 and 3 these with places, 4 a reader, then the constructors.
@@ -314,17 +315,39 @@ fn measured(line: &[u8], call: usize, texts: &mut [u8], starts: &mut [usize]) ->
     }
 }
 
-// A builder after some calls, and the answer of the last.
+// A builder after some calls, the answer of the last, and the record whose fields are as the keys have them.
 struct Calls {
     answer: Answer,
     builder: PfdContentsBuilder,
+    record: PfdContents,
 }
 
 fn done(builder: PfdContentsBuilder) -> Calls {
     Calls {
         answer: Answer::Done,
         builder,
+        record: PfdContents::EMPTY,
     }
+}
+
+fn with_text(mut record: PfdContents, key: usize, text: MaybeText) -> PfdContents {
+    match key {
+        0 => record.flow_description = text,
+        1 => record.url = text,
+        2 => record.domain_name = text,
+        3 => record.custom_pfd_content = text,
+        _ => record.domain_name_protocol = text,
+    }
+    record
+}
+
+fn with_list(mut record: PfdContents, key: usize, list: TextList) -> PfdContents {
+    match key {
+        5 => record.additional_flow_description = list,
+        6 => record.additional_url = list,
+        _ => record.additional_domain_name_and_protocol = list,
+    }
+    record
 }
 
 fn set_text(b: PfdContentsBuilder, key: usize, place: usize, len: usize) -> PfdContentsBuilder {
@@ -353,9 +376,20 @@ fn add(b: PfdContentsBuilder, key: usize, texts: &[u8], place: usize) -> PfdCont
     }
 }
 
-fn made_call(b: PfdContentsBuilder, key: usize, spot: Spot, texts: &[u8]) -> Calls {
+fn made_call(calls: Calls, key: usize, spot: Spot, texts: &[u8]) -> Calls {
+    let builder = calls.builder;
+    let record = calls.record;
     if key < 5 {
-        return done(set_text(b, key, spot.place, spot.len));
+        let text = MaybeText {
+            given: true,
+            place: spot.place,
+            len: spot.len,
+        };
+        return Calls {
+            answer: Answer::Done,
+            builder: set_text(builder, key, spot.place, spot.len),
+            record: with_text(record, key, text),
+        };
     }
     if key < 8 {
         let list = TextList {
@@ -363,12 +397,20 @@ fn made_call(b: PfdContentsBuilder, key: usize, spot: Spot, texts: &[u8]) -> Cal
             len: spot.len,
             count: spot.count,
         };
-        return done(set_list(b, key, list));
+        return Calls {
+            answer: Answer::Done,
+            builder: set_list(builder, key, list),
+            record: with_list(record, key, list),
+        };
     }
-    let added = add(b, key, texts, spot.place);
+    let added = add(builder, key, texts, spot.place);
     let answer = added.answer;
     let builder = added.builder;
-    Calls { answer, builder }
+    Calls {
+        answer,
+        builder,
+        record,
+    }
 }
 
 fn start_of(starts: &[usize], field: usize) -> usize {
@@ -398,7 +440,7 @@ fn next(
     let field = field_of(key);
     let spot = spot_of(word, placed, texts, start_of(starts, field));
     grow(starts, field, spot.len);
-    made_call(calls.builder, key, spot, part(texts, 0, len))
+    made_call(calls, key, spot, part(texts, 0, len))
 }
 
 // The second walk. A field's start moves behind each text that is laid for it.
@@ -420,37 +462,20 @@ fn all_calls(
 }
 
 // The record as its keys have it.
-fn plain(b: PfdContentsBuilder, flags: usize) -> PfdContentsBuilt {
-    let flow_description = b.flow_description;
-    let url = b.url;
-    let domain_name = b.domain_name;
-    let custom_pfd_content = b.custom_pfd_content;
-    let domain_name_protocol = b.domain_name_protocol;
-    let additional_flow_description = b.additional_flow_description;
-    let additional_url = b.additional_url;
-    let additional_domain_name_and_protocol = b.additional_domain_name_and_protocol;
+fn plain(mut record: PfdContents, flags: usize) -> PfdContentsBuilt {
+    record.flags = (flags % 256) as u8;
     PfdContentsBuilt {
         answer: Answer::Done,
-        record: PfdContents {
-            flags: (flags % 256) as u8,
-            flow_description,
-            url,
-            domain_name,
-            custom_pfd_content,
-            domain_name_protocol,
-            additional_flow_description,
-            additional_url,
-            additional_domain_name_and_protocol,
-        },
+        record,
     }
 }
 
 // The record of a constructor.
-fn ready(b: PfdContentsBuilder, call: usize, texts: &[u8]) -> PfdContentsBuilt {
-    let flow = b.flow_description;
-    let url = b.url;
-    let domain = b.domain_name;
-    let protocol = b.domain_name_protocol;
+fn ready(record: PfdContents, call: usize, texts: &[u8]) -> PfdContentsBuilt {
+    let flow = record.flow_description;
+    let url = record.url;
+    let domain = record.domain_name;
+    let protocol = record.domain_name_protocol;
     match call {
         5 => PfdContents::flow_description(texts, flow.place, flow.len),
         6 => PfdContents::url(texts, url.place, url.len),
@@ -476,13 +501,14 @@ fn unmade(answer: Answer) -> PfdContentsBuilt {
 fn made(calls: Calls, call: usize, flags: usize, texts: &[u8]) -> PfdContentsBuilt {
     let answer = calls.answer;
     let builder = calls.builder;
+    let record = calls.record;
     if answer.number() != 0 {
         return unmade(answer);
     }
     match call {
-        0 | 2 => plain(builder, flags),
+        0 | 2 => plain(record, flags),
         1 | 3 => builder.build(texts),
-        _ => ready(builder, call, texts),
+        _ => ready(record, call, texts),
     }
 }
 
