@@ -5,7 +5,10 @@ mod read;
 mod write;
 
 pub use add::ListAdded;
-pub use write::put_run;
+ghost use mathlib.Core.Path.{_≡_};
+ghost use lib.ListN.{length};
+ghost use Rattle.octets.specs.Octets.{put};
+ghost use Rattle.text_fields.specs.Steps.{behindPut};
 
 // A text that may be absent: its place and its length.
 pub struct MaybeText {
@@ -57,4 +60,19 @@ impl TextList {
         len: 0,
         count: 0,
     };
+}
+
+// Puts bytes at a place and says the place behind them. Bytes that don't fit aren't put.
+pub fn put_run(out: &mut [u8], at: usize, bs: &[u8]) -> usize
+    ensures { λ r. ⌜ r ≡ behindPut (length (now (out .entry))) at (now (bs .entry)) ⌝ }
+    ensures { λ r. ⌜ now (out .exit) ≡ put (now (out .entry)) at (now (bs .entry)) ⌝ }
+{
+    if out.len() < bs.len() {
+        return at;
+    }
+    if out.len() - bs.len() < at {
+        return at;
+    }
+    octets::put_bytes(out, at, bs);
+    at + bs.len()
 }

@@ -7,22 +7,7 @@ ghost use Rattle.octets.specs.Octets.{put};
 ghost use Rattle.text_fields.specs.Fields.{fieldOf, isMaybe, isList};
 ghost use Rattle.text_fields.specs.Steps.{behindPut, runBytes, textBytes, judged};
 
-// Puts bytes at a place and says the place behind them. Bytes that don't fit aren't put.
-pub fn put_run(out: &mut [u8], at: usize, bs: &[u8]) -> usize
-    ensures { λ r. ⌜ r ≡ behindPut (length (now (out .entry))) at (now (bs .entry)) ⌝ }
-    ensures { λ r. ⌜ now (out .exit) ≡ put (now (out .entry)) at (now (bs .entry)) ⌝ }
-{
-    if out.len() < bs.len() {
-        return at;
-    }
-    if out.len() - bs.len() < at {
-        return at;
-    }
-    octets::put_bytes(out, at, bs);
-    at + bs.len()
-}
-
-// The same of a field: its two-byte length and its text.
+// Puts a field, its two-byte length and its text, as `put_run` puts bytes.
 fn put_field(out: &mut [u8], at: usize, bs: &[u8]) -> usize
     ensures { λ r. ⌜ r ≡ behindPut (length (now (out .entry))) at (fieldOf (now (bs .entry))) ⌝ }
     ensures { λ r. ⌜ now (out .exit) ≡ put (now (out .entry)) at (fieldOf (now (bs .entry))) ⌝ }
@@ -91,6 +76,6 @@ impl TextList {
     {
         let place = self.place;
         let len = self.len;
-        put_run(out, at, texts::part(texts, place, len))
+        crate::put_run(out, at, texts::part(texts, place, len))
     }
 }

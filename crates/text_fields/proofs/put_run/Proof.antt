@@ -1,9 +1,9 @@
--- `text_fields::write::put_run` meets its contract: by whether there is room.
+-- `text_fields::put_run` meets its contract: by whether there is room.
 use native.Mathlib.Omega.{arith}
 use Rattle.text_fields.proofs.Stores.{no-room, put-there}
 use borrow.Author.Needs.{needs}
-use Rattle.text_fields.proofs.write.put_run.Statement.{statement}
-use Rattle.text_fields.proofs.write.put_run.Tie as tie
+use Rattle.text_fields.proofs.put_run.Statement.{statement}
+use Rattle.text_fields.proofs.put_run.Tie as tie
 
 returns : tie.Need-returns
 returns c = no-room _ _ _ (omega arith)
