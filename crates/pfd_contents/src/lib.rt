@@ -7,8 +7,8 @@ pub use build::PfdContentsAdded;
 pub use build::PfdContentsBuilder;
 pub use build::PfdContentsBuilt;
 pub use read::PfdContentsRead;
-use text_fields::MaybeText;
-use text_fields::TextList;
+pub use text_fields::MaybeText;
+pub use text_fields::TextList;
 
 // The flags stand whole; what is present is said by the fields, not by the flags.
 pub struct PfdContents {
