@@ -2,6 +2,7 @@
 use crate::parts::after;
 use crate::parts::both;
 use crate::parts::part;
+use crate::parts::pick;
 use crate::print;
 use crate::token;
 use answer::Answer;
@@ -32,26 +33,22 @@ fn fields(out: &mut [u8], at: usize, record: Fteid) -> usize {
     print::end_of_line(out, end)
 }
 
-pub(crate) fn payload(bs: &[u8], wire: &mut [u8], out: &mut [u8], at: usize) -> usize {
+// A record's written form and its fields. What is counted is what a reader used, or else what is written.
+fn shown(record: Fteid, is_read: bool, used: usize, out: &mut [u8], at: usize) -> usize {
+    let mut wire = [0u8; 64];
+    let written = record.marshal(&mut wire);
+    let count = pick(is_read, used, written.len);
+    let end = print::done(out, at, count, part(&wire, 0, written.len));
+    fields(out, end, record)
+}
+
+pub(crate) fn payload(bs: &[u8], out: &mut [u8], at: usize) -> usize {
     let read = Fteid::unmarshal(bs);
     let answer = read.answer;
     if answer.number() != 0 {
         return print::unread(out, at, answer);
     }
-    let record = read.record;
-    let written = record.marshal(wire);
-    let end = print::done(out, at, read.used, part(wire, 0, written.len));
-    fields(out, end, record)
-}
-
-fn written(record: Fteid, wire: &mut [u8], out: &mut [u8], at: usize) -> usize {
-    let written = record.marshal(wire);
-    let answer = written.answer;
-    if answer.number() != 0 {
-        return print::unmade(out, at, answer);
-    }
-    let end = print::done(out, at, written.len, part(wire, 0, written.len));
-    fields(out, end, record)
+    shown(read.record, true, read.used, out, at)
 }
 
 // The tokens of a line that isn't the builder's. It is good where it has no others.
@@ -307,7 +304,7 @@ fn asked_of(line: &[u8]) -> Asked {
     }
 }
 
-pub(crate) fn record(line: &[u8], wire: &mut [u8], out: &mut [u8], at: usize) -> usize {
+pub(crate) fn record(line: &[u8], out: &mut [u8], at: usize) -> usize {
     let asked = asked_of(line);
     if !asked.is_good {
         return print::other(out, at);
@@ -316,5 +313,5 @@ pub(crate) fn record(line: &[u8], wire: &mut [u8], out: &mut [u8], at: usize) ->
     if answer.number() != 0 {
         return print::unmade(out, at, answer);
     }
-    written(asked.record, wire, out, at)
+    shown(asked.record, false, 0, out, at)
 }

@@ -1,6 +1,7 @@
 // F-SEID: the answers of its payloads and its record lines.
 use crate::parts::both;
 use crate::parts::part;
+use crate::parts::pick;
 use crate::print;
 use crate::token;
 use fseid::Fseid;
@@ -17,26 +18,22 @@ fn fields(out: &mut [u8], at: usize, record: Fseid) -> usize {
     print::end_of_line(out, end)
 }
 
-pub(crate) fn payload(bs: &[u8], wire: &mut [u8], out: &mut [u8], at: usize) -> usize {
+// A record's written form and its fields. What is counted is what a reader used, or else what is written.
+fn shown(record: Fseid, is_read: bool, used: usize, out: &mut [u8], at: usize) -> usize {
+    let mut wire = [0u8; 64];
+    let written = record.marshal(&mut wire);
+    let count = pick(is_read, used, written.len);
+    let end = print::done(out, at, count, part(&wire, 0, written.len));
+    fields(out, end, record)
+}
+
+pub(crate) fn payload(bs: &[u8], out: &mut [u8], at: usize) -> usize {
     let read = Fseid::unmarshal(bs);
     let answer = read.answer;
     if answer.number() != 0 {
         return print::unread(out, at, answer);
     }
-    let record = read.record;
-    let written = record.marshal(wire);
-    let end = print::done(out, at, read.used, part(wire, 0, written.len));
-    fields(out, end, record)
-}
-
-fn written(record: Fseid, wire: &mut [u8], out: &mut [u8], at: usize) -> usize {
-    let written = record.marshal(wire);
-    let answer = written.answer;
-    if answer.number() != 0 {
-        return print::unmade(out, at, answer);
-    }
-    let end = print::done(out, at, written.len, part(wire, 0, written.len));
-    fields(out, end, record)
+    shown(read.record, true, read.used, out, at)
 }
 
 // The tokens of a record line. It is good where it has no others.
@@ -99,11 +96,11 @@ fn is_taken(call: usize, has_flags: bool, flags: u8) -> bool {
     }
 }
 
-pub(crate) fn record(line: &[u8], wire: &mut [u8], out: &mut [u8], at: usize) -> usize {
+pub(crate) fn record(line: &[u8], out: &mut [u8], at: usize) -> usize {
     let t = tokens(line);
     let call = token::index(b"S S.new", token::head(line));
     if !both(t.is_good, is_taken(call, t.has_flags, t.flags)) {
         return print::other(out, at);
     }
-    written(record_of(t, call), wire, out, at)
+    shown(record_of(t, call), false, 0, out, at)
 }

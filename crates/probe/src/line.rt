@@ -19,45 +19,33 @@ fn first(line: &[u8]) -> u8 {
     line[0]
 }
 
-pub(crate) fn answer(
-    line: &[u8],
-    payload: &mut [u8],
-    wire: &mut [u8],
-    out: &mut [u8],
-    at: usize,
-) -> usize {
+pub(crate) fn answer(line: &[u8], payload: &mut [u8], out: &mut [u8], at: usize) -> usize {
     if LONGEST < line.len() {
         return print::other(out, at);
     }
     if has(line, b'=') {
-        return record_line(line, payload, wire, out, at);
+        return record_line(line, payload, out, at);
     }
     if has(line, b'.') {
-        return record_line(line, payload, wire, out, at);
+        return record_line(line, payload, out, at);
     }
-    payload_line(line, payload, wire, out, at)
+    payload_line(line, payload, out, at)
 }
 
 // The texts of a record are laid into the buffer that payload lines are read into.
-fn record_line(line: &[u8], texts: &mut [u8], wire: &mut [u8], out: &mut [u8], at: usize) -> usize {
+fn record_line(line: &[u8], texts: &mut [u8], out: &mut [u8], at: usize) -> usize {
     match first(line) {
-        b'U' => ue_ip_line::record(line, wire, out, at),
-        b'F' => f_teid_line::record(line, wire, out, at),
-        b'S' => fseid_line::record(line, wire, out, at),
-        b'N' => node_id_line::record(line, texts, wire, out, at),
-        b'O' => ohc_line::record(line, wire, out, at),
-        b'P' => pfd_line::record(line, texts, wire, out, at),
+        b'U' => ue_ip_line::record(line, out, at),
+        b'F' => f_teid_line::record(line, out, at),
+        b'S' => fseid_line::record(line, out, at),
+        b'N' => node_id_line::record(line, texts, out, at),
+        b'O' => ohc_line::record(line, out, at),
+        b'P' => pfd_line::record(line, texts, out, at),
         _ => print::other(out, at),
     }
 }
 
-fn payload_line(
-    line: &[u8],
-    payload: &mut [u8],
-    wire: &mut [u8],
-    out: &mut [u8],
-    at: usize,
-) -> usize {
+fn payload_line(line: &[u8], payload: &mut [u8], out: &mut [u8], at: usize) -> usize {
     if line.len() < 3 {
         return print::other(out, at);
     }
@@ -66,7 +54,7 @@ fn payload_line(
     }
     let text = &line[2..];
     if check::same(text, b"-") {
-        return by_letter(line[0], b"", wire, out, at);
+        return by_letter(line[0], b"", out, at);
     }
     if text.len() % 2 != 0 {
         return print::other(out, at);
@@ -75,17 +63,17 @@ fn payload_line(
     if len != text.len() / 2 {
         return print::other(out, at);
     }
-    by_letter(line[0], part(payload, 0, len), wire, out, at)
+    by_letter(line[0], part(payload, 0, len), out, at)
 }
 
-fn by_letter(letter: u8, bs: &[u8], wire: &mut [u8], out: &mut [u8], at: usize) -> usize {
+fn by_letter(letter: u8, bs: &[u8], out: &mut [u8], at: usize) -> usize {
     match letter {
-        b'U' => ue_ip_line::payload(bs, wire, out, at),
-        b'F' => f_teid_line::payload(bs, wire, out, at),
-        b'S' => fseid_line::payload(bs, wire, out, at),
-        b'N' => node_id_line::payload(bs, false, wire, out, at),
-        b'O' => ohc_line::payload(bs, wire, out, at),
-        b'P' => pfd_line::payload(bs, false, wire, out, at),
+        b'U' => ue_ip_line::payload(bs, out, at),
+        b'F' => f_teid_line::payload(bs, out, at),
+        b'S' => fseid_line::payload(bs, out, at),
+        b'N' => node_id_line::payload(bs, false, out, at),
+        b'O' => ohc_line::payload(bs, out, at),
+        b'P' => pfd_line::payload(bs, false, out, at),
         b'T' => text_payload(bs, out, at),
         _ => print::other(out, at),
     }

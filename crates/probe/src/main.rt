@@ -41,25 +41,19 @@ fn written(filled: Filled, output: &[u8]) -> Filled {
 }
 
 // Answers a line behind what the output has, or at its start, once that is written, where it may lack the room.
-fn answer(
-    filled: Filled,
-    line: &[u8],
-    payload: &mut [u8],
-    wire: &mut [u8],
-    output: &mut [u8],
-) -> Filled {
+fn answer(filled: Filled, line: &[u8], payload: &mut [u8], output: &mut [u8]) -> Filled {
     if !filled.ok {
         return filled;
     }
     if left(output.len(), filled.done) < ANSWER {
         let empty = written(filled, output);
         return Filled {
-            done: line::answer(line, payload, wire, output, 0),
+            done: line::answer(line, payload, output, 0),
             ok: empty.ok,
         };
     }
     Filled {
-        done: line::answer(line, payload, wire, output, filled.done),
+        done: line::answer(line, payload, output, filled.done),
         ok: true,
     }
 }
@@ -71,19 +65,13 @@ struct Lines {
 }
 
 // Answers the lines of the input that have an end. The first `searched` bytes have none.
-fn answer_lines(
-    input: &[u8],
-    searched: usize,
-    payload: &mut [u8],
-    wire: &mut [u8],
-    output: &mut [u8],
-) -> Lines {
+fn answer_lines(input: &[u8], searched: usize, payload: &mut [u8], output: &mut [u8]) -> Lines {
     let n = input.len();
     let mut filled = Filled { done: 0, ok: true };
     let mut start = 0;
     let mut at = bytes::scan::find(input, least(searched, n), n, b'\n');
     while at < n {
-        filled = answer(filled, part(input, start, at), payload, wire, output);
+        filled = answer(filled, part(input, start, at), payload, output);
         start = at + 1;
         at = bytes::scan::find(input, start, n, b'\n');
     }
@@ -120,13 +108,7 @@ struct Rest {
 }
 
 // Reads once, and answers the lines that have an end. Where the read fails, or the answers can't be written, nothing is kept.
-fn take_turn(
-    input: &mut [u8],
-    kept: usize,
-    payload: &mut [u8],
-    wire: &mut [u8],
-    output: &mut [u8],
-) -> Rest {
+fn take_turn(input: &mut [u8], kept: usize, payload: &mut [u8], output: &mut [u8]) -> Rest {
     let got = read_behind(input, kept);
     let end = got.end;
     if got.failed {
@@ -138,7 +120,7 @@ fn take_turn(
     if end == kept {
         return Rest { kept, more: false };
     }
-    let lines = answer_lines(part(input, 0, end), kept, payload, wire, output);
+    let lines = answer_lines(part(input, 0, end), kept, payload, output);
     if !lines.ok {
         return Rest {
             kept: 0,
@@ -161,33 +143,32 @@ fn fewer(turns: u64, more: bool) -> u64
 
 // Answers the lines of the input, and says how much of an unfinished last one stands at the front. A proved loop has to end, and
 // nothing says that an input does, so the turns are counted down from a number that no run uses up.
-fn answer_input(input: &mut [u8], payload: &mut [u8], wire: &mut [u8], output: &mut [u8]) -> usize {
+fn answer_input(input: &mut [u8], payload: &mut [u8], output: &mut [u8]) -> usize {
     let mut rest = Rest {
         kept: 0,
         more: true,
     };
     let mut turns = u64::MAX;
     while 0 < turns {
-        rest = take_turn(input, rest.kept, payload, wire, output);
+        rest = take_turn(input, rest.kept, payload, output);
         turns = fewer(turns, rest.more);
     }
     rest.kept
 }
 
 // The end of the input ends a last line, where there is one.
-fn answer_all(input: &mut [u8], payload: &mut [u8], wire: &mut [u8], output: &mut [u8]) {
-    let kept = answer_input(input, payload, wire, output);
+fn answer_all(input: &mut [u8], payload: &mut [u8], output: &mut [u8]) {
+    let kept = answer_input(input, payload, output);
     if kept == 0 {
         return;
     }
-    let done = line::answer(part(input, 0, kept), payload, wire, output, 0);
+    let done = line::answer(part(input, 0, kept), payload, output, 0);
     io::write_all(STDOUT_FILENO, part(output, 0, done));
 }
 
 fn main() {
     let mut input = [0u8; 262144];
     let mut payload = [0u8; 131072];
-    let mut wire = [0u8; 65535];
     let mut output = [0u8; 400000];
-    answer_all(&mut input, &mut payload, &mut wire, &mut output);
+    answer_all(&mut input, &mut payload, &mut output);
 }

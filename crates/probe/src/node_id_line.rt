@@ -5,6 +5,7 @@ use crate::parts::after;
 use crate::parts::both;
 use crate::parts::left;
 use crate::parts::part;
+use crate::parts::pick;
 use crate::print;
 use crate::token;
 use crate::token::Number;
@@ -41,13 +42,7 @@ fn fields(out: &mut [u8], at: usize, texts: &[u8], record: NodeId, has_place: bo
     print::end_of_line(out, end)
 }
 
-pub(crate) fn payload(
-    bs: &[u8],
-    is_brief: bool,
-    wire: &mut [u8],
-    out: &mut [u8],
-    at: usize,
-) -> usize {
+pub(crate) fn payload(bs: &[u8], is_brief: bool, out: &mut [u8], at: usize) -> usize {
     let read = NodeId::unmarshal(bs);
     let answer = read.answer;
     if answer.number() != 0 {
@@ -56,9 +51,10 @@ pub(crate) fn payload(
     if is_brief {
         return print::brief(out, at, read.used);
     }
+    let mut wire = [0u8; 65535];
     let record = read.record;
-    let written = record.marshal(bs, wire);
-    let end = print::done(out, at, read.used, part(wire, 0, written.len));
+    let written = record.marshal(bs, &mut wire);
+    let end = print::done(out, at, read.used, part(&wire, 0, written.len));
     fields(out, end, bs, record, true)
 }
 
@@ -143,10 +139,6 @@ struct Frame {
     has_room: bool,
     room: usize,
     is_brief: bool,
-}
-
-fn pick(is_given: bool, given: usize, default: usize) -> usize {
-    if is_given { given } else { default }
 }
 
 fn slice_of(line: &[u8], texts: &mut [u8]) -> Laid {
@@ -254,11 +246,11 @@ fn shown(
     fields(out, end, texts, record, false)
 }
 
-fn answered(asked: NodeIdAsked, texts: &[u8], wire: &mut [u8], out: &mut [u8], at: usize) -> usize {
+fn answered(asked: NodeIdAsked, texts: &[u8], out: &mut [u8], at: usize) -> usize {
     let record = asked.record;
-    let written = write(record, texts, wire, asked.room);
-    let start = left(wire.len(), asked.room);
-    let lent = part(wire, start, wire.len());
+    let mut wire = [0u8; 65535];
+    let written = write(record, texts, &mut wire, asked.room);
+    let lent = part(&wire, left(65535, asked.room), 65535);
     if asked.is_placed {
         return print::placed(out, at, written, lent, asked.is_brief);
     }
@@ -266,13 +258,7 @@ fn answered(asked: NodeIdAsked, texts: &[u8], wire: &mut [u8], out: &mut [u8], a
 }
 
 // A name that is longer than the buffer is refused here, as it would be there.
-pub(crate) fn record(
-    line: &[u8],
-    texts: &mut [u8],
-    wire: &mut [u8],
-    out: &mut [u8],
-    at: usize,
-) -> usize {
+pub(crate) fn record(line: &[u8], texts: &mut [u8], out: &mut [u8], at: usize) -> usize {
     let asked = asked(line, texts);
     if !asked.is_good {
         return print::other(out, at);
@@ -281,7 +267,7 @@ pub(crate) fn record(
         return print::unmade(out, at, Answer::TooLong { length: asked.len });
     }
     if asked.is_read {
-        return payload(part(texts, 0, asked.len), asked.is_brief, wire, out, at);
+        return payload(part(texts, 0, asked.len), asked.is_brief, out, at);
     }
-    answered(asked, part(texts, 0, asked.len), wire, out, at)
+    answered(asked, part(texts, 0, asked.len), out, at)
 }

@@ -2,6 +2,7 @@
 use crate::parts::both;
 use crate::parts::either;
 use crate::parts::part;
+use crate::parts::pick;
 use crate::print;
 use crate::token;
 use octets::MaybeIpv4;
@@ -55,26 +56,28 @@ fn fields(out: &mut [u8], at: usize, record: OuterHeaderCreation) -> usize {
     print::end_of_line(out, end)
 }
 
-pub(crate) fn payload(bs: &[u8], wire: &mut [u8], out: &mut [u8], at: usize) -> usize {
+// A record's written form and its fields. What is counted is what a reader used, or else what is written.
+fn shown(
+    record: OuterHeaderCreation,
+    is_read: bool,
+    used: usize,
+    out: &mut [u8],
+    at: usize,
+) -> usize {
+    let mut wire = [0u8; 64];
+    let written = record.marshal(&mut wire);
+    let count = pick(is_read, used, written.len);
+    let end = print::done(out, at, count, part(&wire, 0, written.len));
+    fields(out, end, record)
+}
+
+pub(crate) fn payload(bs: &[u8], out: &mut [u8], at: usize) -> usize {
     let read = OuterHeaderCreation::unmarshal(bs);
     let answer = read.answer;
     if answer.number() != 0 {
         return print::unread(out, at, answer);
     }
-    let record = read.record;
-    let written = record.marshal(wire);
-    let end = print::done(out, at, read.used, part(wire, 0, written.len));
-    fields(out, end, record)
-}
-
-fn written(record: OuterHeaderCreation, wire: &mut [u8], out: &mut [u8], at: usize) -> usize {
-    let written = record.marshal(wire);
-    let answer = written.answer;
-    if answer.number() != 0 {
-        return print::unmade(out, at, answer);
-    }
-    let end = print::done(out, at, written.len, part(wire, 0, written.len));
-    fields(out, end, record)
+    shown(read.record, true, read.used, out, at)
 }
 
 // The tokens of a record line. It is good where it has no others.
@@ -231,12 +234,12 @@ fn record_of(line: &[u8], t: Given, call: usize) -> OuterHeaderCreation {
     tagged(line, t, ready(t, call))
 }
 
-pub(crate) fn record(line: &[u8], wire: &mut [u8], out: &mut [u8], at: usize) -> usize {
+pub(crate) fn record(line: &[u8], out: &mut [u8], at: usize) -> usize {
     let t = tokens(line);
     let call = call_of(line);
     let has_tag = either(t.ctag.given, t.stag.given);
     if !both(t.is_good, is_taken(call, keys(t), has_tag)) {
         return print::other(out, at);
     }
-    written(record_of(line, t, call), wire, out, at)
+    shown(record_of(line, t, call), false, 0, out, at)
 }

@@ -21,6 +21,10 @@ pub(crate) fn least(a: usize, b: usize) -> usize
     if a < b { a } else { b }
 }
 
+pub(crate) fn pick(is_first: bool, first: usize, second: usize) -> usize {
+    if is_first { first } else { second }
+}
+
 pub(crate) fn both(a: bool, b: bool) -> bool {
     if a { b } else { false }
 }

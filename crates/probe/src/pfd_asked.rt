@@ -6,6 +6,7 @@ use crate::parts::after;
 use crate::parts::both;
 use crate::parts::left;
 use crate::parts::part;
+use crate::parts::pick;
 use crate::token;
 use answer::Answer;
 use pfd_contents::PfdContents;
@@ -219,10 +220,6 @@ fn bit_of(key: usize) -> u16 {
         return 0;
     }
     bits[key]
-}
-
-fn pick(is_new: bool, new: usize, old: usize) -> usize {
-    if is_new { new } else { old }
 }
 
 fn noted(seen: Seen, key: usize, spot: Spot) -> Seen {

@@ -117,13 +117,7 @@ fn write(record: PfdContents, texts: &[u8], wire: &mut [u8], room: usize) -> Wri
     record.marshal(texts, &mut wire[start..])
 }
 
-pub(crate) fn payload(
-    bs: &[u8],
-    is_brief: bool,
-    wire: &mut [u8],
-    out: &mut [u8],
-    at: usize,
-) -> usize {
+pub(crate) fn payload(bs: &[u8], is_brief: bool, out: &mut [u8], at: usize) -> usize {
     let read = PfdContents::unmarshal(bs);
     let answer = read.answer;
     if answer.number() != 0 {
@@ -132,9 +126,10 @@ pub(crate) fn payload(
     if is_brief {
         return print::brief(out, at, read.used);
     }
+    let mut wire = [0u8; 65535];
     let record = read.record;
-    let written = record.marshal(bs, wire);
-    let end = print::done(out, at, read.used, part(wire, 0, written.len));
+    let written = record.marshal(bs, &mut wire);
+    let end = print::done(out, at, read.used, part(&wire, 0, written.len));
     fields(out, end, bs, record, true)
 }
 
@@ -155,34 +150,28 @@ fn shown(
     fields(out, end, texts, record, false)
 }
 
-fn answered(asked: PfdAsked, texts: &[u8], wire: &mut [u8], out: &mut [u8], at: usize) -> usize {
+fn answered(asked: PfdAsked, texts: &[u8], out: &mut [u8], at: usize) -> usize {
     let answer = asked.answer;
     if answer.number() != 0 {
         return print::unmade(out, at, answer);
     }
     let record = asked.record;
-    let written = write(record, texts, wire, asked.room);
-    let start = left(wire.len(), asked.room);
-    let lent = part(wire, start, wire.len());
+    let mut wire = [0u8; 65535];
+    let written = write(record, texts, &mut wire, asked.room);
+    let lent = part(&wire, left(65535, asked.room), 65535);
     if asked.is_placed {
         return print::placed(out, at, written, lent, asked.is_brief);
     }
     shown(written, lent, texts, record, out, at)
 }
 
-pub(crate) fn record(
-    line: &[u8],
-    texts: &mut [u8],
-    wire: &mut [u8],
-    out: &mut [u8],
-    at: usize,
-) -> usize {
+pub(crate) fn record(line: &[u8], texts: &mut [u8], out: &mut [u8], at: usize) -> usize {
     let asked = pfd_asked::asked(line, texts);
     if !asked.is_good {
         return print::other(out, at);
     }
     if asked.is_read {
-        return payload(part(texts, 0, asked.len), asked.is_brief, wire, out, at);
+        return payload(part(texts, 0, asked.len), asked.is_brief, out, at);
     }
-    answered(asked, part(texts, 0, asked.len), wire, out, at)
+    answered(asked, part(texts, 0, asked.len), out, at)
 }

@@ -1,6 +1,7 @@
 // UE IP Address: the answers of its payloads and its record lines.
 use crate::parts::both;
 use crate::parts::part;
+use crate::parts::pick;
 use crate::print;
 use crate::token;
 use octets::MaybeIpv4;
@@ -35,26 +36,22 @@ fn fields(out: &mut [u8], at: usize, record: UeIpAddress) -> usize {
     print::end_of_line(out, end)
 }
 
-pub(crate) fn payload(bs: &[u8], wire: &mut [u8], out: &mut [u8], at: usize) -> usize {
+// A record's written form and its fields. What is counted is what a reader used, or else what is written.
+fn shown(record: UeIpAddress, is_read: bool, used: usize, out: &mut [u8], at: usize) -> usize {
+    let mut wire = [0u8; 64];
+    let written = record.marshal(&mut wire);
+    let count = pick(is_read, used, written.len);
+    let end = print::done(out, at, count, part(&wire, 0, written.len));
+    fields(out, end, record)
+}
+
+pub(crate) fn payload(bs: &[u8], out: &mut [u8], at: usize) -> usize {
     let read = UeIpAddress::unmarshal(bs);
     let answer = read.answer;
     if answer.number() != 0 {
         return print::unread(out, at, answer);
     }
-    let record = read.record;
-    let written = record.marshal(wire);
-    let end = print::done(out, at, read.used, part(wire, 0, written.len));
-    fields(out, end, record)
-}
-
-fn written(record: UeIpAddress, wire: &mut [u8], out: &mut [u8], at: usize) -> usize {
-    let written = record.marshal(wire);
-    let answer = written.answer;
-    if answer.number() != 0 {
-        return print::unmade(out, at, answer);
-    }
-    let end = print::done(out, at, written.len, part(wire, 0, written.len));
-    fields(out, end, record)
+    shown(read.record, true, read.used, out, at)
 }
 
 // The tokens of a record line. It is good where it has no others.
@@ -150,11 +147,11 @@ fn record_of(t: Given, call: usize) -> UeIpAddress {
     }
 }
 
-pub(crate) fn record(line: &[u8], wire: &mut [u8], out: &mut [u8], at: usize) -> usize {
+pub(crate) fn record(line: &[u8], out: &mut [u8], at: usize) -> usize {
     let t = tokens(line);
     let call = token::index(b"U U.new U.choose", token::head(line));
     if !both(t.is_good, is_taken(call, keys(t), t.flags.value)) {
         return print::other(out, at);
     }
-    written(record_of(t, call), wire, out, at)
+    shown(record_of(t, call), false, 0, out, at)
 }

@@ -7,12 +7,12 @@ use Rattle.probe.proofs.answer_input.Statement.{statement}
 use Rattle.probe.proofs.answer_input.Tie as tie
 
 abbrev Inv-loop : tie.InvT-loop
-Inv-loop input₀ payload₀ wire₀ output₀ rest₀ turns₀ input payload wire output rest turns =
+Inv-loop input₀ payload₀ output₀ rest₀ turns₀ input payload output rest turns =
     (length input ≡ length input₀)
-    × ((length payload ≡ length payload₀) × ((length wire ≡ length wire₀) × (length output ≡ length output₀)))
+    × ((length payload ≡ length payload₀) × (length output ≡ length output₀))
 
 abbrev μ-loop : tie.MeasureT-loop
-μ-loop input₀ payload₀ wire₀ output₀ rest₀ turns₀ input payload wire output rest turns = turns
+μ-loop input₀ payload₀ output₀ rest₀ turns₀ input payload output rest turns = turns
 
 loop-holds : tie.Need-loop-holds Inv-loop μ-loop
 loop-holds c = search needs
@@ -38,9 +38,6 @@ same-length-2 c = search needs
 same-length-3 : tie.Need-same-length-3 Inv-loop μ-loop
 same-length-3 c = search needs
 
-same-length-4 : tie.Need-same-length-4 Inv-loop μ-loop
-same-length-4 c = search needs
-
 returns : tie.Need-returns Inv-loop μ-loop
 returns c = search needs
 
@@ -58,5 +55,4 @@ answer-input-spec =
     same-length
     same-length-2
     same-length-3
-    same-length-4
     returns)

@@ -8,12 +8,12 @@ use Rattle.probe.proofs.answer_lines.Statement.{statement}
 use Rattle.probe.proofs.answer_lines.Tie as tie
 
 abbrev Inv-loop : tie.InvT-loop
-Inv-loop input searched payload₀ wire₀ output₀ n filled₀ start₀ at₀ payload wire output filled start at =
+Inv-loop input searched payload₀ output₀ n filled₀ start₀ at₀ payload output filled start at =
     (at ≤ n)
-    × ((length payload ≡ length payload₀) × ((length wire ≡ length wire₀) × (length output ≡ length output₀)))
+    × ((length payload ≡ length payload₀) × (length output ≡ length output₀))
 
 abbrev μ-loop : tie.MeasureT-loop
-μ-loop input searched payload₀ wire₀ output₀ n filled₀ start₀ at₀ payload wire output filled start at =
+μ-loop input searched payload₀ output₀ n filled₀ start₀ at₀ payload output filled start at =
     n - at
 
 least-requires : tie.Need-least-requires Inv-loop μ-loop
@@ -52,9 +52,6 @@ same-length c = search needs
 same-length-2 : tie.Need-same-length-2 Inv-loop μ-loop
 same-length-2 c = search needs
 
-same-length-3 : tie.Need-same-length-3 Inv-loop μ-loop
-same-length-3 c = search needs
-
 returns : tie.Need-returns Inv-loop μ-loop
 returns c = search needs
 
@@ -76,5 +73,4 @@ answer-lines-spec =
     written-requires
     same-length
     same-length-2
-    same-length-3
     returns)
