@@ -1,5 +1,5 @@
 -- Outer Header Creation is a kind of fixed fields. No contract cites this file.
-use Prim.Native.Nat.{ℕ, _+_, _≤_, _<_}
+use Prim.Native.Nat.{ℕ, _+_, _%_, _^_, _≤_, _<_}
 use native.Mathlib.Omega.{arith}
 use native.Mathlib.Nat.{mod-one}
 use mathlib.Core.Path.{_≡_, refl, ap, _∙_}
@@ -14,7 +14,7 @@ use Rattle.kind.specs.Demand3.{Demand3, PrefixFree}
 use Rattle.kind.proofs.Demand3.{demand3, prefix-free}
 use Rattle.kind.proofs.Fixed.{Follows, Fixed, accepted-whole, cut-length, kind-of, local-of}
 use Rattle.kind.proofs.Laws.{total, end, Alike, alike-field, alike-bit}
-use Rattle.kind.proofs.Rows.{take-pieces}
+use Rattle.kind.proofs.Rows.{pieces, take-pieces}
 use Rattle.outer_header_creation.specs.declared.Sent.{Sent}
 use Rattle.outer_header_creation.specs.OuterHeaderCreation.{Flags, Value, flagsOf, asked, endsOf, fieldsOf, meaning, sentIf, orZero, wire, layout, kept, teidOf, recordWith, recordOf, refused, found, read, reader}
 use Rattle.outer_header_creation.proofs.Laws.{ends, back-given, back-anyway}
@@ -85,14 +85,19 @@ module _ (s : List ℕ) (b : Bytes s) (f : Bool) (at w : ℕ) (h : at + under f 
   again-tag : 0 < w → w ≤ 4 → sentIf f (numberIf w (u32Meaning (u32Of part))) ≡ part
   again-tag p q = back-given f w part long _ (u32-bytes f w part each p long q)
 
+-- of the first two bytes the flags are kept and the spare byte is cleared
+first-cleared : (x y : ℕ) (bs : List ℕ) → clear kept (x ∷ y ∷ bs) ≡ x % 2 ^ 8 ∷ 0 ∷ bs
+unfolding clear
+first-cleared x y bs = ap (λ (z : ℕ). x % 2 ^ 8 ∷ z ∷ bs) (mod-one y)
+
 pub rewritten : (s : List ℕ) → Bytes s → end layout s ≤ length s → wire (meaning (recordOf s)) ≡ clear kept (take (end layout s) s)
-unfolding wire meaning recordWith teidOf endsOf clear flatten
+unfolding wire meaning recordWith teidOf endsOf flatten
 rewritten s b h =
     rw (
       take-pieces 2 (fieldsOf (sent s)) s,
       first-two s (omega arith),
+      first-cleared (getD s 0 0) (getD s 1 0) (flatten (pieces 2 (fieldsOf (sent s)) s)),
       flags-kept 8 (getD s 0 0),
-      mod-one (getD s 1 0),
       again-teid s b (sent s .teid) 2 4 (omega arith) (omega arith) (omega arith),
       again-address s b (sent s .ipv4) (ends s .teid) 4 (omega arith) _ (ipv4-bytes (sent s .ipv4) _),
       again-address s b (sent s .ipv6) (ends s .ipv4) 16 (omega arith) _ (ipv6-bytes (sent s .ipv6) _),
