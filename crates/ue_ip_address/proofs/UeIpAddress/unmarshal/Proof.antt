@@ -193,7 +193,11 @@ refused-requires-4 : tie.Need-refused-requires-4
 refused-requires-4 c κs = search needs
 
 returns-4 : tie.Need-returns-4
-returns-4 c = let flags = flagged (c .before .before .before .before) in search stop1
+returns-4 c =
+    let t = c .before in
+    let u4 = t .before in
+    let free = u4 .before in
+    stop1 _ _ _ _ _ _ _ _ _ (flagged (free .before)) (free .if3 .left) _ (u4 .under .ensures .0) _ (t .if4 .taken) (c .refused4 .ensures)
 
 under-requires-2 : tie.Need-under-requires-2
 under-requires-2 c κs = search needs
@@ -205,7 +209,12 @@ refused-requires-5 : tie.Need-refused-requires-5
 refused-requires-5 c κs = search needs
 
 returns-5 : tie.Need-returns-5
-returns-5 c = let flags = flagged (c .before .before .before .before .before .before) in search stop2
+returns-5 c =
+    let t = c .before in
+    let u6 = t .before in
+    let u4 = u6 .before .before in
+    let free = u4 .before in
+    stop2 _ _ _ _ _ _ _ _ _ (flagged (free .before)) (free .if3 .left) _ (u4 .under .ensures .0) _ (u6 .under2 .ensures .0) _ (u6 .before .if4 .left) (t .if5 .taken) (c .refused5 .ensures)
 
 under-requires-3 : tie.Need-under-requires-3
 under-requires-3 c κs = search needs
@@ -217,7 +226,13 @@ refused-requires-6 : tie.Need-refused-requires-6
 refused-requires-6 c κs = search needs
 
 returns-6 : tie.Need-returns-6
-returns-6 c = let flags = flagged (c .before .before .before .before .before .before .before .before) in search stop3
+returns-6 c =
+    let t = c .before in
+    let ud = t .before in
+    let u6 = ud .before .before in
+    let u4 = u6 .before .before in
+    let free = u4 .before in
+    stop3 _ _ _ _ _ _ _ _ _ (flagged (free .before)) (free .if3 .left) _ (u4 .under .ensures .0) _ (u6 .under2 .ensures .0) _ (ud .under3 .ensures .0) _ (ud .before .if5 .left) (t .if6 .taken) (c .refused6 .ensures)
 
 under-requires-4 : tie.Need-under-requires-4
 under-requires-4 c κs = search needs
@@ -229,7 +244,14 @@ refused-requires-7 : tie.Need-refused-requires-7
 refused-requires-7 c κs = search needs
 
 returns-7 : tie.Need-returns-7
-returns-7 c = let flags = flagged (c .before .before .before .before .before .before .before .before .before .before) in search stop4
+returns-7 c =
+    let t = c .before in
+    let up = t .before in
+    let ud = up .before .before in
+    let u6 = ud .before .before in
+    let u4 = u6 .before .before in
+    let free = u4 .before in
+    stop4 _ _ _ _ _ _ _ _ _ (flagged (free .before)) (free .if3 .left) _ (u4 .under .ensures .0) _ (u6 .under2 .ensures .0) _ (ud .under3 .ensures .0) _ (up .under4 .ensures .0) _ (up .before .if6 .left) (t .if7 .taken) (c .refused7 .ensures)
 
 sub-of : tie.Need-sub-of
 sub-of c = search needs
@@ -280,7 +302,17 @@ of-requires-4 : tie.Need-of-requires-4
 of-requires-4 c κs = search needs
 
 returns-8 : tie.Need-returns-8
-returns-8 c = let flags = flagged (c .before .before .before .before .before .before .before .before .before .before .before .before .before .before .before .before .before) in search done
+returns-8 c =
+    let bits = c .before .before in
+    let a6 = bits .before .before in
+    let a4 = a6 .before .before in
+    let whole = a4 .before .before in
+    let up = whole .before in
+    let ud = up .before .before in
+    let u6 = ud .before .before in
+    let u4 = u6 .before .before in
+    let free = u4 .before in
+    done _ _ _ _ _ _ _ _ _ (flagged (free .before)) (free .if3 .left) _ (u4 .under .ensures .0) _ (u6 .under2 .ensures .0) _ (ud .under3 .ensures .0) _ (up .under4 .ensures .0) _ _ _ _ (whole .if7 .left) (a4 .of .ensures) (a6 .of2 .ensures) (bits .of3 .ensures) (c .of4 .ensures)
 
 pub unmarshal-spec : {M : Type 1} → statement M
 unmarshal-spec =
