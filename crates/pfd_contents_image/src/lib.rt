@@ -1,0 +1,171 @@
+// PFD Contents in a record image.
+use answer::Answer;
+use pfd_contents::PfdContents;
+use pfd_contents::PfdContentsRead;
+use text_fields::MaybeText;
+use text_fields::TextList;
+ghost use mathlib.Core.Path.{_≡_};
+ghost use Prim.Native.Nat.{_≤_, _+_};
+ghost use lib.ListN.{length};
+ghost use mathlib.Core.List.{_++_};
+ghost use Rattle.answer.specs.Paper.{numberOf};
+ghost use Rattle.octets.specs.Octets.{put};
+ghost use Rattle.image.specs.Image.{head, told, laid, whole, numbered, changed, reported};
+ghost use Rattle.pfd_contents.specs.PfdContents.{read};
+ghost use Rattle.pfd_contents_image.specs.PfdContentsImage.{textImage, listImage, textsImage, listsImage, recordImage, imageOf, textAt, listAt, recordAt, writes, stores};
+
+// How long an image is.
+pub const SIZE: usize = 194;
+
+// Puts a text's place and length.
+fn put_text(out: &mut [u8], at: usize, text: MaybeText)
+    requires { ⌜ at + 16 ≤ length (now out) ⌝ }
+    ensures { λ _. ⌜ now (out .exit) ≡ put (now (out .entry)) at (textImage text) ⌝ }
+{
+    image::put_u64(out, at + 8, text.len as u64);
+    image::put_u64(out, at, text.place as u64);
+}
+
+// Puts a run's place, its length and its count.
+fn put_list(out: &mut [u8], at: usize, list: TextList)
+    requires { ⌜ at + 24 ≤ length (now out) ⌝ }
+    ensures { λ _. ⌜ now (out .exit) ≡ put (now (out .entry)) at (listImage list) ⌝ }
+{
+    image::put_u64(out, at + 16, list.count as u64);
+    image::put_u64(out, at + 8, list.len as u64);
+    image::put_u64(out, at, list.place as u64);
+}
+
+fn put_texts(out: &mut [u8], record: PfdContents)
+    requires { ⌜ 194 ≤ length (now out) ⌝ }
+    ensures { λ _. ⌜ now (out .exit) ≡ put (now (out .entry)) 42 (textsImage «record») ⌝ }
+{
+    put_text(out, 106, record.domain_name_protocol);
+    put_text(out, 90, record.custom_pfd_content);
+    put_text(out, 74, record.domain_name);
+    put_text(out, 58, record.url);
+    put_text(out, 42, record.flow_description);
+}
+
+fn put_lists(out: &mut [u8], record: PfdContents)
+    requires { ⌜ 194 ≤ length (now out) ⌝ }
+    ensures { λ _. ⌜ now (out .exit) ≡ put (now (out .entry)) 122 (listsImage «record») ⌝ }
+{
+    put_list(out, 170, record.additional_domain_name_and_protocol);
+    put_list(out, 146, record.additional_url);
+    put_list(out, 122, record.additional_flow_description);
+}
+
+// Puts a whole image, from the back to the front.
+fn put_image(out: &mut [u8], answer: Answer, used: usize, record: PfdContents)
+    requires { ⌜ 194 ≤ length (now out) ⌝ }
+    ensures { λ _. ⌜ now (out .exit) ≡ put (now (out .entry)) 0 (head answer used ++ recordImage «record») ⌝ }
+{
+    let flow_description = record.flow_description;
+    let url = record.url;
+    let domain_name = record.domain_name;
+    let custom_pfd_content = record.custom_pfd_content;
+    let domain_name_protocol = record.domain_name_protocol;
+    let given = octets::flag_byte(
+        flow_description.given,
+        url.given,
+        domain_name.given,
+        custom_pfd_content.given,
+        domain_name_protocol.given,
+        false,
+        false,
+        false,
+    );
+    put_lists(out, record);
+    put_texts(out, record);
+    octets::put_byte(out, 41, given);
+    octets::put_byte(out, 40, record.flags);
+    image::put_head(out, answer, used);
+}
+
+// Puts what a read answered, and says its number. A read that is done has its own way, so that it stores the zeros of its head at once.
+fn put_read(out: &mut [u8], read: PfdContentsRead) -> u64
+    requires { ⌜ 194 ≤ length (now out) ⌝ }
+    ensures { λ r. ⌜ r ≡ numberOf (read .answer) ⌝ }
+    ensures { λ r. ⌜ now (out .exit) ≡ put (now (out .entry)) 0 (imageOf read) ⌝ }
+{
+    let answer = read.answer;
+    let record = read.record;
+    let used = read.used;
+    let Answer::Done = answer else {
+        put_image(out, answer, used, record);
+        return answer.number() as u64;
+    };
+    put_image(out, Answer::Done, used, record);
+    0
+}
+
+// The text at a place, where it is given.
+fn text_at(image: &[u8], at: usize, given: bool) -> MaybeText
+    requires { ⌜ at ≤ 170 ⌝ }
+    ensures { λ r. ⌜ r ≡ textAt (now (image .entry)) at given ⌝ }
+{
+    let place = image::u64_at(image, at);
+    let len = image::u64_at(image, at + 8);
+    MaybeText {
+        given,
+        place: place as usize,
+        len: len as usize,
+    }
+}
+
+// The list at a place.
+fn list_at(image: &[u8], at: usize) -> TextList
+    requires { ⌜ at ≤ 170 ⌝ }
+    ensures { λ r. ⌜ r ≡ listAt (now (image .entry)) at ⌝ }
+{
+    let place = image::u64_at(image, at);
+    let len = image::u64_at(image, at + 8);
+    let count = image::u64_at(image, at + 16);
+    TextList {
+        place: place as usize,
+        len: len as usize,
+        count: count as usize,
+    }
+}
+
+// The record that stands in an image.
+fn record_at(image: &[u8]) -> PfdContents
+    ensures { λ r. ⌜ r ≡ recordAt (now (image .entry)) ⌝ }
+{
+    let flags = image::byte_at(image, 40);
+    let given = image::byte_at(image, 41);
+    PfdContents {
+        flags,
+        flow_description: text_at(image, 42, octets::bit(given, 0)),
+        url: text_at(image, 58, octets::bit(given, 1)),
+        domain_name: text_at(image, 74, octets::bit(given, 2)),
+        custom_pfd_content: text_at(image, 90, octets::bit(given, 3)),
+        domain_name_protocol: text_at(image, 106, octets::bit(given, 4)),
+        additional_flow_description: list_at(image, 122),
+        additional_url: list_at(image, 146),
+        additional_domain_name_and_protocol: list_at(image, 170),
+    }
+}
+
+pub fn read(payload: &[u8], image: &mut [u8]) -> u64
+    ensures { λ r. ⌜ r ≡ told 194 (now (image .entry)) (read (now (payload .entry)) .answer) ⌝ }
+    ensures { λ r. ⌜ now (image .exit) ≡ laid 194 (now (image .entry)) (imageOf (read (now (payload .entry)))) ⌝ }
+{
+    if image.len() < SIZE {
+        return 8;
+    }
+    put_read(image, PfdContents::unmarshal(payload))
+}
+
+pub fn write(image: &[u8], texts: &[u8], out: &mut [u8], report: &mut [u8]) -> u64
+    ensures { λ r. ⌜ r ≡ numbered (whole 194 (now (image .entry)) (now (report .entry))) (writes (now (image .entry)) (now (texts .entry)) (now (out .entry))) ⌝ }
+    ensures { λ r. ⌜ now (out .exit) ≡ changed (whole 194 (now (image .entry)) (now (report .entry))) (stores (now (image .entry)) (now (texts .entry)) (now (out .entry))) (now (out .entry)) ⌝ }
+    ensures { λ r. ⌜ now (report .exit) ≡ reported (whole 194 (now (image .entry)) (now (report .entry))) (now (report .entry)) (writes (now (image .entry)) (now (texts .entry)) (now (out .entry))) ⌝ }
+{
+    if !image::long_enough(SIZE, image.len(), report.len()) {
+        return 8;
+    }
+    let record = record_at(image);
+    image::put_report(report, record.marshal(texts, out))
+}
