@@ -1,0 +1,184 @@
+// The functions that C and Rust link: each is the function that it calls, under a plain name.
+ghost use mathlib.Core.Path.{_≡_};
+ghost use mathlib.Core.Bool.{cond};
+ghost use Rattle.image.specs.Image.{told, laid, whole, numbered, changed, reported};
+ghost use Rattle.strict.specs.Strict as strict;
+ghost use Rattle.ue_ip_address.specs.UeIpAddress as ue;
+ghost use Rattle.ue_ip_address_image.specs.UeIpAddressImage as ueImage;
+ghost use Rattle.f_teid.specs.Fteid as fteid;
+ghost use Rattle.f_teid_image.specs.FteidImage as fteidImage;
+ghost use Rattle.fseid.specs.Fseid as fseid;
+ghost use Rattle.fseid_image.specs.FseidImage as fseidImage;
+ghost use Rattle.node_id.specs.NodeId as node;
+ghost use Rattle.node_id_image.specs.NodeIdImage as nodeImage;
+ghost use Rattle.outer_header_creation.specs.OuterHeaderCreation as ohc;
+ghost use Rattle.outer_header_creation_image.specs.OuterHeaderCreationImage as ohcImage;
+
+// A change of an image's layout, or of a function's parameters, gives it another number.
+const LAYOUT_VERSION: u64 = 1;
+
+// 1 for yes and 0 for no.
+fn number_of(verdict: bool) -> u64
+    ensures { λ r. ⌜ r ≡ cond verdict 1 0 ⌝ }
+{
+    verdict as u64
+}
+
+#[no_mangle]
+pub extern "C" fn yerondatt_layout_version() -> u64
+    ensures { λ r. ⌜ r ≡ 1 ⌝ }
+{
+    LAYOUT_VERSION
+}
+
+// ---- UE IP Address
+
+#[no_mangle]
+pub extern "C" fn yerondatt_ue_ip_address_read(payload: &[u8], image: &mut [u8]) -> u64
+    ensures { λ r. ⌜ r ≡ told 64 (now (image .entry)) (ue.read (now (payload .entry)) .answer) ⌝ }
+    ensures { λ r. ⌜ now (image .exit) ≡ laid 64 (now (image .entry)) (ueImage.imageOf (ue.read (now (payload .entry)))) ⌝ }
+{
+    ue_ip_address_image::read(payload, image)
+}
+
+#[no_mangle]
+pub extern "C" fn yerondatt_ue_ip_address_write(
+    image: &[u8],
+    out: &mut [u8],
+    report: &mut [u8],
+) -> u64
+    ensures { λ r. ⌜ r ≡ numbered (whole 64 (now (image .entry)) (now (report .entry))) (ueImage.writes (now (image .entry)) (now (out .entry))) ⌝ }
+    ensures { λ r. ⌜ now (out .exit) ≡ changed (whole 64 (now (image .entry)) (now (report .entry))) (ueImage.stores (now (image .entry)) (now (out .entry))) (now (out .entry)) ⌝ }
+    ensures { λ r. ⌜ now (report .exit) ≡ reported (whole 64 (now (image .entry)) (now (report .entry))) (now (report .entry)) (ueImage.writes (now (image .entry)) (now (out .entry))) ⌝ }
+{
+    ue_ip_address_image::write(image, out, report)
+}
+
+#[no_mangle]
+pub extern "C" fn yerondatt_ue_ip_address_strict(payload: &[u8]) -> u64
+    ensures { λ r. ⌜ r ≡ cond (strict.ueIpAddress (now (payload .entry))) 1 0 ⌝ }
+{
+    number_of(strict::ue_ip_address(payload))
+}
+
+// ---- F-TEID
+
+#[no_mangle]
+pub extern "C" fn yerondatt_f_teid_read(payload: &[u8], image: &mut [u8]) -> u64
+    ensures { λ r. ⌜ r ≡ told 71 (now (image .entry)) (fteid.read (now (payload .entry)) .answer) ⌝ }
+    ensures { λ r. ⌜ now (image .exit) ≡ laid 71 (now (image .entry)) (fteidImage.imageOf (fteid.read (now (payload .entry)))) ⌝ }
+{
+    f_teid_image::read(payload, image)
+}
+
+#[no_mangle]
+pub extern "C" fn yerondatt_f_teid_write(image: &[u8], out: &mut [u8], report: &mut [u8]) -> u64
+    ensures { λ r. ⌜ r ≡ numbered (whole 71 (now (image .entry)) (now (report .entry))) (fteidImage.writes (now (image .entry)) (now (out .entry))) ⌝ }
+    ensures { λ r. ⌜ now (out .exit) ≡ changed (whole 71 (now (image .entry)) (now (report .entry))) (fteidImage.stores (now (image .entry)) (now (out .entry))) (now (out .entry)) ⌝ }
+    ensures { λ r. ⌜ now (report .exit) ≡ reported (whole 71 (now (image .entry)) (now (report .entry))) (now (report .entry)) (fteidImage.writes (now (image .entry)) (now (out .entry))) ⌝ }
+{
+    f_teid_image::write(image, out, report)
+}
+
+#[no_mangle]
+pub extern "C" fn yerondatt_f_teid_strict(payload: &[u8]) -> u64
+    ensures { λ r. ⌜ r ≡ cond (strict.fTeid (now (payload .entry))) 1 0 ⌝ }
+{
+    number_of(strict::f_teid(payload))
+}
+
+// ---- F-SEID
+
+#[no_mangle]
+pub extern "C" fn yerondatt_fseid_read(payload: &[u8], image: &mut [u8]) -> u64
+    ensures { λ r. ⌜ r ≡ told 70 (now (image .entry)) (fseid.read (now (payload .entry)) .answer) ⌝ }
+    ensures { λ r. ⌜ now (image .exit) ≡ laid 70 (now (image .entry)) (fseidImage.imageOf (fseid.read (now (payload .entry)))) ⌝ }
+{
+    fseid_image::read(payload, image)
+}
+
+#[no_mangle]
+pub extern "C" fn yerondatt_fseid_write(image: &[u8], out: &mut [u8], report: &mut [u8]) -> u64
+    ensures { λ r. ⌜ r ≡ numbered (whole 70 (now (image .entry)) (now (report .entry))) (fseidImage.writes (now (image .entry)) (now (out .entry))) ⌝ }
+    ensures { λ r. ⌜ now (out .exit) ≡ changed (whole 70 (now (image .entry)) (now (report .entry))) (fseidImage.stores (now (image .entry)) (now (out .entry))) (now (out .entry)) ⌝ }
+    ensures { λ r. ⌜ now (report .exit) ≡ reported (whole 70 (now (image .entry)) (now (report .entry))) (now (report .entry)) (fseidImage.writes (now (image .entry)) (now (out .entry))) ⌝ }
+{
+    fseid_image::write(image, out, report)
+}
+
+#[no_mangle]
+pub extern "C" fn yerondatt_fseid_strict(payload: &[u8]) -> u64
+    ensures { λ r. ⌜ r ≡ cond (strict.fSeid (now (payload .entry))) 1 0 ⌝ }
+{
+    number_of(strict::fseid(payload))
+}
+
+// ---- Node ID
+
+#[no_mangle]
+pub extern "C" fn yerondatt_node_id_read(payload: &[u8], image: &mut [u8]) -> u64
+    ensures { λ r. ⌜ r ≡ told 77 (now (image .entry)) (node.read (now (payload .entry)) .answer) ⌝ }
+    ensures { λ r. ⌜ now (image .exit) ≡ laid 77 (now (image .entry)) (nodeImage.imageOf (node.read (now (payload .entry)))) ⌝ }
+{
+    node_id_image::read(payload, image)
+}
+
+#[no_mangle]
+pub extern "C" fn yerondatt_node_id_write(
+    image: &[u8],
+    texts: &[u8],
+    out: &mut [u8],
+    report: &mut [u8],
+) -> u64
+    ensures { λ r. ⌜ r ≡ numbered (whole 77 (now (image .entry)) (now (report .entry))) (nodeImage.writes (now (image .entry)) (now (texts .entry)) (now (out .entry))) ⌝ }
+    ensures { λ r. ⌜ now (out .exit) ≡ changed (whole 77 (now (image .entry)) (now (report .entry))) (nodeImage.stores (now (image .entry)) (now (texts .entry)) (now (out .entry))) (now (out .entry)) ⌝ }
+    ensures { λ r. ⌜ now (report .exit) ≡ reported (whole 77 (now (image .entry)) (now (report .entry))) (now (report .entry)) (nodeImage.writes (now (image .entry)) (now (texts .entry)) (now (out .entry))) ⌝ }
+{
+    node_id_image::write(image, texts, out, report)
+}
+
+#[no_mangle]
+pub extern "C" fn yerondatt_node_id_strict(payload: &[u8]) -> u64
+    ensures { λ r. ⌜ r ≡ cond (strict.nodeId (now (payload .entry))) 1 0 ⌝ }
+{
+    number_of(strict::node_id(payload))
+}
+
+// ---- Outer Header Creation
+
+#[no_mangle]
+pub extern "C" fn yerondatt_outer_header_creation_read(payload: &[u8], image: &mut [u8]) -> u64
+    ensures { λ r. ⌜ r ≡ told 94 (now (image .entry)) (ohc.read (now (payload .entry)) .answer) ⌝ }
+    ensures { λ r. ⌜ now (image .exit) ≡ laid 94 (now (image .entry)) (ohcImage.imageOf (ohc.read (now (payload .entry)))) ⌝ }
+{
+    outer_header_creation_image::read(payload, image)
+}
+
+#[no_mangle]
+pub extern "C" fn yerondatt_outer_header_creation_write(
+    image: &[u8],
+    out: &mut [u8],
+    report: &mut [u8],
+) -> u64
+    ensures { λ r. ⌜ r ≡ numbered (whole 94 (now (image .entry)) (now (report .entry))) (ohcImage.writes (now (image .entry)) (now (out .entry))) ⌝ }
+    ensures { λ r. ⌜ now (out .exit) ≡ changed (whole 94 (now (image .entry)) (now (report .entry))) (ohcImage.stores (now (image .entry)) (now (out .entry))) (now (out .entry)) ⌝ }
+    ensures { λ r. ⌜ now (report .exit) ≡ reported (whole 94 (now (image .entry)) (now (report .entry))) (now (report .entry)) (ohcImage.writes (now (image .entry)) (now (out .entry))) ⌝ }
+{
+    outer_header_creation_image::write(image, out, report)
+}
+
+#[no_mangle]
+pub extern "C" fn yerondatt_outer_header_creation_strict(payload: &[u8]) -> u64
+    ensures { λ r. ⌜ r ≡ cond (strict.outerHeaderCreation (now (payload .entry))) 1 0 ⌝ }
+{
+    number_of(strict::outer_header_creation(payload))
+}
+
+// ---- PFD Contents
+
+#[no_mangle]
+pub extern "C" fn yerondatt_pfd_contents_strict(payload: &[u8]) -> u64
+    ensures { λ r. ⌜ r ≡ cond (strict.pfdContents (now (payload .entry))) 1 0 ⌝ }
+{
+    number_of(strict::pfd_contents(payload))
+}
