@@ -13,6 +13,8 @@ ghost use Rattle.node_id.specs.NodeId as node;
 ghost use Rattle.node_id_image.specs.NodeIdImage as nodeImage;
 ghost use Rattle.outer_header_creation.specs.OuterHeaderCreation as ohc;
 ghost use Rattle.outer_header_creation_image.specs.OuterHeaderCreationImage as ohcImage;
+ghost use Rattle.pfd_contents.specs.PfdContents as pfd;
+ghost use Rattle.pfd_contents_image.specs.PfdContentsImage as pfdImage;
 
 // A change of an image's layout, or of a function's parameters, gives it another number.
 const LAYOUT_VERSION: u64 = 1;
@@ -175,6 +177,28 @@ pub extern "C" fn yerondatt_outer_header_creation_strict(payload: &[u8]) -> u64
 }
 
 // ---- PFD Contents
+
+#[no_mangle]
+pub extern "C" fn yerondatt_pfd_contents_read(payload: &[u8], image: &mut [u8]) -> u64
+    ensures { λ r. ⌜ r ≡ told 194 (now (image .entry)) (pfd.read (now (payload .entry)) .answer) ⌝ }
+    ensures { λ r. ⌜ now (image .exit) ≡ laid 194 (now (image .entry)) (pfdImage.imageOf (pfd.read (now (payload .entry)))) ⌝ }
+{
+    pfd_contents_image::read(payload, image)
+}
+
+#[no_mangle]
+pub extern "C" fn yerondatt_pfd_contents_write(
+    image: &[u8],
+    texts: &[u8],
+    out: &mut [u8],
+    report: &mut [u8],
+) -> u64
+    ensures { λ r. ⌜ r ≡ numbered (whole 194 (now (image .entry)) (now (report .entry))) (pfdImage.writes (now (image .entry)) (now (texts .entry)) (now (out .entry))) ⌝ }
+    ensures { λ r. ⌜ now (out .exit) ≡ changed (whole 194 (now (image .entry)) (now (report .entry))) (pfdImage.stores (now (image .entry)) (now (texts .entry)) (now (out .entry))) (now (out .entry)) ⌝ }
+    ensures { λ r. ⌜ now (report .exit) ≡ reported (whole 194 (now (image .entry)) (now (report .entry))) (now (report .entry)) (pfdImage.writes (now (image .entry)) (now (texts .entry)) (now (out .entry))) ⌝ }
+{
+    pfd_contents_image::write(image, texts, out, report)
+}
 
 #[no_mangle]
 pub extern "C" fn yerondatt_pfd_contents_strict(payload: &[u8]) -> u64
