@@ -558,6 +558,21 @@ static const struct kind *kind_of(struct word line)
     return NULL;
 }
 
+/* Lends the texts of the line, or its payload. */
+static const uint8_t *lend_texts(void)
+{
+    uint8_t *bytes = lend(&lent_payload, texts.len, LENT_BACK);
+    if (texts.len != 0)
+        memcpy(bytes, texts.bytes, texts.len);
+    return bytes;
+}
+
+/* Whether they are as they were lent. */
+static bool is_lent(const uint8_t *bytes)
+{
+    return lent_guarded(&lent_payload) && (texts.len == 0 || memcmp(bytes, texts.bytes, texts.len) == 0);
+}
+
 /* ---- writing ---- */
 
 /* Writes an image into an output of so many bytes, which is then lent_out, and says what the report has. */
@@ -566,8 +581,13 @@ static struct yerondatt_head write_once(const struct kind *kind, const uint8_t *
 {
     uint8_t *out = lend(&lent_out, room, LENT_BACK);
     uint8_t *report = lend(&lent_report, YERONDATT_REPORT_SIZE, LENT_BACK);
-    uint64_t answer = kind->write(image, kind->size, from, from_len, out, room, report, YERONDATT_REPORT_SIZE);
-    struct yerondatt_head head = yerondatt_head_from_image(report);
+    uint8_t before[YERONDATT_PFD_CONTENTS_SIZE];
+    struct yerondatt_head head;
+    uint64_t answer;
+    memcpy(before, image, kind->size);
+    answer = kind->write(image, kind->size, from, from_len, out, room, report, YERONDATT_REPORT_SIZE);
+    head = yerondatt_head_from_image(report);
+    must(memcmp(before, image, kind->size) == 0 && is_lent(from), "the image or the texts are changed");
     must(answer == head.answer, "the returned number isn't that of the report");
     must(head.answer == YERONDATT_DONE || head.count == 0, "a refused write has a length");
     must(head.count <= room, "more is written than there is room for");
@@ -625,25 +645,28 @@ static struct yerondatt_head read_payload(const struct kind *kind, const uint8_t
     return head;
 }
 
+/* Writes the record of the image that was read, from its struct. */
+static struct yerondatt_head write_again(const struct kind *kind, const uint8_t *payload)
+{
+    uint8_t *again = lend(&lent_again, kind->size, LENT_BACK);
+    kind->again(lent_image.bytes, again);
+    must(memcmp(again + YERONDATT_HEAD_SIZE, lent_image.bytes + YERONDATT_HEAD_SIZE, kind->size - YERONDATT_HEAD_SIZE) == 0,
+         "the struct, laid into an image again, gives another record");
+    return write_record(kind, again, payload, texts.len, kind->room);
+}
+
 static void answer_payload(const struct kind *kind, bool is_brief)
 {
-    uint8_t *payload = lend(&lent_payload, texts.len, LENT_BACK);
-    struct yerondatt_head head, written;
-    uint8_t *again;
-    if (texts.len != 0)
-        memcpy(payload, texts.bytes, texts.len);
-    head = read_payload(kind, payload, texts.len);
+    const uint8_t *payload = lend_texts();
+    struct yerondatt_head head = read_payload(kind, payload, texts.len);
+    struct yerondatt_head written;
+    must(is_lent(payload), "the payload is changed");
     if (head.answer != YERONDATT_DONE) {
         show_refusal(head);
         return;
     }
-    again = lend(&lent_again, kind->size, LENT_BACK);
-    kind->again(lent_image.bytes, again);
-    must(memcmp(again + YERONDATT_HEAD_SIZE, lent_image.bytes + YERONDATT_HEAD_SIZE, kind->size - YERONDATT_HEAD_SIZE) == 0,
-         "the struct, laid into an image again, gives another record");
-    written = write_record(kind, again, payload, texts.len, kind->room);
+    written = write_again(kind, payload);
     must(written.answer == YERONDATT_DONE && written.count == head.count, "the written length isn't the used count");
-    must(texts.len == 0 || memcmp(payload, texts.bytes, texts.len) == 0, "the payload is changed");
     printf("0 %zu ", head.count);
     if (is_brief) {
         puts("-");
@@ -657,27 +680,30 @@ static void answer_payload(const struct kind *kind, bool is_brief)
 
 /* ---- a record ---- */
 
+/* The answer of a record, but for its fields. */
+static void show_written(struct yerondatt_head head, bool is_brief)
+{
+    if (head.answer != YERONDATT_DONE) {
+        printf("%" PRIu64 " %" PRIu64 " -", head.answer, head.values[0]);
+        return;
+    }
+    printf("0 %zu ", head.count);
+    if (is_brief)
+        putchar('-');
+    else
+        show_bytes(lent_out.bytes, head.count);
+}
+
 static void answer_record(const struct kind *kind, struct word line, bool is_raw)
 {
     uint8_t *image = lend(&lent_image, kind->size, LENT_BACK);
     struct yerondatt_head head;
     struct word room, brief;
-    uint8_t *from;
+    const uint8_t *from;
     kind->ask(line, is_raw, image);
-    from = lend(&lent_payload, texts.len, LENT_BACK);
-    if (texts.len != 0)
-        memcpy(from, texts.bytes, texts.len);
+    from = lend_texts();
     head = write_record(kind, image, from, texts.len, find(line, "room=", &room) ? decimal(room) : kind->room);
-    if (head.answer == YERONDATT_DONE && find(line, "brief", &brief)) {
-        printf("0 %zu -\n", head.count);
-        return;
-    }
-    if (head.answer == YERONDATT_DONE) {
-        printf("0 %zu ", head.count);
-        show_bytes(lent_out.bytes, head.count);
-    } else {
-        printf("%" PRIu64 " %" PRIu64 " -", head.answer, head.values[0]);
-    }
+    show_written(head, find(line, "brief", &brief));
     if (!is_raw && (head.answer == YERONDATT_DONE || head.answer == YERONDATT_TOO_WIDE)) {
         fputs(" | ", stdout);
         kind->show(image, from, false);
