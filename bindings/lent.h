@@ -12,7 +12,7 @@
 #include <string.h>
 #include <sys/mman.h>
 
-#define LENT_PAGE 4096
+#define LENT_PAGE 65536 /* no page of any machine is longer, also where an emulator runs this */
 #define LENT_GUARD 64
 #define LENT_FILL 0xA5
 
