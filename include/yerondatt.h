@@ -60,7 +60,11 @@ enum yerondatt_answer {
      * then nothing at all is changed, the report neither.
      */
     YERONDATT_NO_ROOM = 8,
-    /* a builder refuses. Builders aren't exported, so that no function of this header answers 9 [rule 1 to 6] */
+    /*
+     * A builder refuses [rule: 1 IPv4 both given and chosen, 2 IPv6 likewise, 3 no address and no choice, 4 a choose ID without
+     * a choice, 5 no TEID and no choice, 6 PFD Contents without field and list entry]. Builders aren't exported, so that no
+     * function of this header answers 9.
+     */
     YERONDATT_UNBUILT = 9
 };
 
