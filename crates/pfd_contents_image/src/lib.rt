@@ -36,6 +36,7 @@ fn put_list(out: &mut [u8], at: usize, list: TextList)
     image::put_u64(out, at, list.place as u64);
 }
 
+// Puts the five texts.
 fn put_texts(out: &mut [u8], record: PfdContents)
     requires { ⌜ 194 ≤ length (now out) ⌝ }
     ensures { λ _. ⌜ now (out .exit) ≡ put (now (out .entry)) 42 (textsImage «record») ⌝ }
@@ -47,6 +48,7 @@ fn put_texts(out: &mut [u8], record: PfdContents)
     put_text(out, 42, record.flow_description);
 }
 
+// Puts the three lists.
 fn put_lists(out: &mut [u8], record: PfdContents)
     requires { ⌜ 194 ≤ length (now out) ⌝ }
     ensures { λ _. ⌜ now (out .exit) ≡ put (now (out .entry)) 122 (listsImage «record») ⌝ }
@@ -100,7 +102,7 @@ fn put_read(out: &mut [u8], read: PfdContentsRead) -> u64
     0
 }
 
-// The text at a place, where it is given.
+// The text at a place, and whether it is given. A place of an image is small, so that no sum is too large.
 fn text_at(image: &[u8], at: usize, given: bool) -> MaybeText
     requires { ⌜ at ≤ 170 ⌝ }
     ensures { λ r. ⌜ r ≡ textAt (now (image .entry)) at given ⌝ }

@@ -2,7 +2,6 @@
 use Prim.Native.Nat.{ℕ, _+_}
 use mathlib.Core.Path.{_≡_}
 use mathlib.Core.List.{List}
-use Rattle.text_fields.specs.declared.TextList.{TextList}
 use Rattle.image.specs.Image.{numberAt}
 use Rattle.pfd_contents_image.specs.PfdContentsImage.{listAt}
 use borrow.Author.Needs.{needs}

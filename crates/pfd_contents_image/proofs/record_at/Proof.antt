@@ -7,7 +7,6 @@ use lib.ListN.{getD}
 use Rattle.octets.specs.Octets.{bit}
 use Rattle.text_fields.specs.declared.MaybeText.{MaybeText}
 use Rattle.text_fields.specs.declared.TextList.{TextList}
-use Rattle.pfd_contents.specs.declared.PfdContents.{PfdContents}
 use Rattle.pfd_contents_image.specs.PfdContentsImage.{textAt, listAt, recordAt}
 use borrow.Author.Needs.{needs}
 use Rattle.pfd_contents_image.proofs.record_at.Statement.{statement}

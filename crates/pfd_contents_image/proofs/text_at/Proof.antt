@@ -3,7 +3,6 @@ use Prim.Native.Nat.{ℕ, _+_}
 use mathlib.Core.Path.{_≡_}
 use mathlib.Core.Bool.{Bool}
 use mathlib.Core.List.{List}
-use Rattle.text_fields.specs.declared.MaybeText.{MaybeText}
 use Rattle.image.specs.Image.{numberAt}
 use Rattle.pfd_contents_image.specs.PfdContentsImage.{textAt}
 use borrow.Author.Needs.{needs}
