@@ -1,7 +1,7 @@
 /*
  * edges
  * Lent memory at its edges, for each kind: images, reports and outputs a byte short, just long enough and longer than needed,
- * payloads and outputs of no bytes, at both ends of memory that nobody may touch. Prints what fails, then one line.
+ * payloads and outputs of no bytes, NULL too, at both ends of memory that nobody may touch. Prints what fails, then one line.
  */
 #define _DEFAULT_SOURCE
 #include "kinds.h"
@@ -210,6 +210,22 @@ static void heads_are_not_looked_at(void)
     must(memcmp(lent_out.bytes, kind->payload, kind->len) == 0, "an image with another head is written otherwise");
 }
 
+/* A slice of no bytes may be NULL, in each of its places. */
+static void nothing_may_be_null(void)
+{
+    uint8_t *report = lend(&lent_report, YERONDATT_REPORT_SIZE, edge);
+    lend_record(kind->size);
+    must(kind->read(lent_payload.bytes, lent_payload.len, NULL, 0) == YERONDATT_NO_ROOM, "an image at NULL isn't answered 8");
+    must(kind->write(NULL, 0, NULL, 0, NULL, 0, NULL, 0) == YERONDATT_NO_ROOM, "a write from NULL isn't answered 8");
+    must(kind->write(lent_image.bytes, lent_image.len, lent_payload.bytes, lent_payload.len, NULL, 0, report, YERONDATT_REPORT_SIZE)
+             == YERONDATT_NO_ROOM,
+         "an output at NULL isn't answered 8");
+    must(has(&lent_report, YERONDATT_NO_ROOM, kind->len, 0), "the report of an output at NULL lacks the needed length");
+    memset(lent_image.bytes, 0, lent_image.len);
+    kind->write(lent_image.bytes, lent_image.len, NULL, 0, NULL, 0, report, YERONDATT_REPORT_SIZE);
+    must(is_payload() && all_guarded(), "slices at NULL change other memory");
+}
+
 static void test_kind(void)
 {
     lend_record(kind->size);
@@ -221,6 +237,7 @@ static void test_kind(void)
     lend_payload(0);
     nothing_is_read(lent_payload.bytes);
     nothing_is_read(NULL);
+    nothing_may_be_null();
     short_images_are_not_written();
     short_reports_are_not_written();
     short_outputs_are_not_written();
