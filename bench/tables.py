@@ -160,6 +160,20 @@ def summary(costs):
         ])
 
 
+def missing(costs):
+    """The classes that miss their target."""
+    print("\n## Targets missed\n")
+    all_of = 0
+    for kind in costs:
+        for what in ("read", "refused", "write", "utf8"):
+            found = {name: ratio(whats[what]) for name, whats in costs[kind].items() if what in whats}
+            all_of += len(found)
+            bad = [f"{name} {value:.3f}" for name, value in found.items() if missed(what, name, value)]
+            if bad:
+                print(f"- {KINDS[kind]}, {what}: {', '.join(bad)}")
+    print(f"\nAll other of the {all_of} ratios are within their targets.")
+
+
 def utf8_table(costs, times):
     print("\n### UTF-8 check\n")
     table(["text", "ours", "from_utf8", "ratio", "in time"])
@@ -219,6 +233,7 @@ def main():
     for line in (folder / "machine").read_text().splitlines():
         print(f"- {line}")
     summary(costs)
+    missing(costs)
     print("\n## Instructions per call")
     for kind in costs:
         if kind != "utf8":
