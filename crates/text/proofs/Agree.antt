@@ -75,6 +75,29 @@ agree-turn (r ∷ row) [] i p q = absurd (not-suc-le-zero q)
 agree-turn (r ∷ row) (b ∷ s) zero p q = refl
 agree-turn (r ∷ row) (b ∷ s) (suc i) p q = agree-turn row s i (le-of-suc-le-suc p) (le-of-suc-le-suc q)
 
+-- One byte more that lies in its range.
+pub agree-grows : (row : List Range) (s : List ℕ) (i : ℕ) → i ≤ agree row s → i < length row → i < length s → within (getD row i trail) (getD s i 0) ≡ true → suc i ≤ agree row s
+unfolding agree
+agree-grows [] s i h p q e = absurd (not-suc-le-zero p)
+agree-grows (r ∷ row) [] i h p q e = absurd (not-suc-le-zero q)
+agree-grows (r ∷ row) (b ∷ s) zero h p q e = rw e (omega arith)
+agree-grows (r ∷ row) (b ∷ s) (suc i) h p q e = go (within r b) h (λ g. agree-grows row s i g (le-of-suc-le-suc p) (le-of-suc-le-suc q) e)
+  where
+    go : (t : Bool) → suc i ≤ cond t (suc (agree row s)) 0 → (i ≤ agree row s → suc i ≤ agree row s) → suc (suc i) ≤ cond t (suc (agree row s)) 0
+    go true g more = omega (arith, more (le-of-suc-le-suc g))
+    go false g more = absurd (not-suc-le-zero g)
+
+-- A row's first range has the first byte of what agrees with it.
+pub agree-lead : (row : List Range) (s : List ℕ) → 0 < agree row s → within (getD row 0 trail) (getD s 0 0) ≡ true
+unfolding agree
+agree-lead [] s p = absurd (not-suc-le-zero p)
+agree-lead (r ∷ row) [] p = absurd (not-suc-le-zero p)
+agree-lead (r ∷ row) (b ∷ s) p = go (within r b) refl p
+  where
+    go : (t : Bool) → within r b ≡ t → 0 < cond t (suc (agree row s)) 0 → within r b ≡ true
+    go true e q = e
+    go false e q = absurd (not-suc-le-zero q)
+
 -- ---- a row of the code's table
 
 pub length-ranges : (row : Row) → length (ranges row) ≡ row .4

@@ -4,16 +4,16 @@ use mathlib.Core.Bool.{Bool, true, false, cond, not}
 use mathlib.Core.List.{List, [], _∷_}
 use Prim.Native.Nat.{ℕ, zero, suc, _+_, _-_, _≤_, _<_, max, zero-le}
 use native.Mathlib.Omega.{arith}
-use borrow.Author.Tests.{eqb-true, not-true, not-false}
+use borrow.Author.Tests.{eqb-true, not-true, not-false, ltb-true, ltb-false}
 use lib.Bits.{bitOr, or-add-and, and-le-l, and-le-r}
-use lib.Dec.{eqb}
+use lib.Dec.{eqb, ltb}
 use lib.ListN.{length, getD, drop, length-drop, drop-of-length-le}
 use lib.Seq.{drop-drop}
 use Rattle.text.specs.declared.Checked.{Checked}
 use Rattle.text.specs.Utf8.{Range, rows, agree, seqLen, walk, goodLen, best, badLen, checked}
-use Rattle.text.specs.Steps.{Starts, Passed, Stopped}
+use Rattle.text.specs.Steps.{Starts, Plain, Passed, Stopped}
 use Rattle.text.proofs.Agree.{agree-fits}
-use Rattle.text.proofs.Table.{starts-ascii}
+use Rattle.text.proofs.Table.{starts-ascii, whole-row}
 
 -- ---- goodLen
 
@@ -76,15 +76,23 @@ passed-none s at p = record { forward = omega arith; inside = p; same = refl }
 pub passed-on : {s : List ℕ} {a b c : ℕ} → Passed s a b → Passed s b c → Passed s a c
 passed-on p q = record { forward = omega arith; inside = q .inside; same = p .same ∙ q .same }
 
+-- A sequence is passed whole.
+pub passed-length : (s : List ℕ) (at n : ℕ) → at + n ≤ length s → seqLen rows (drop at s) ≡ n → Passed s at (at + n)
+passed-length s at n p is =
+    let step : goodLen (drop at s) ≡ n + goodLen (drop n (drop at s)) = rw is at (good-step (drop at s)) in
+    record { forward = omega arith; inside = p; same = omega (arith, step, ap goodLen (drop-drop n at s)) }
+
 module _ (s : List ℕ) (at n : ℕ) (t : Bool) (found : Starts s at n t) where
   pub passed-whole : not t ≡ false → Passed s at (at + n)
-  passed-whole e =
-      let is : seqLen rows (drop at s) ≡ n = found .only-whole ∙ rw (not-false t e) in
-      let step : goodLen (drop at s) ≡ n + goodLen (drop n (drop at s)) = rw is at (good-step (drop at s)) in
-      record { forward = omega arith; inside = found .inside; same = omega (arith, step, ap goodLen (drop-drop n at s)) }
+  passed-whole e = passed-length s at n (found .inside) (found .only-whole ∙ rw (not-false t e))
 
   pub stopped-at : not t ≡ true → Stopped s at n
   stopped-at e = record { nothing = good-none (drop at s) (found .only-whole ∙ rw (not-true t e)); most = found .most }
+
+-- What agrees with all of a row is a sequence.
+pub passed-row : (s : List ℕ) (at k n : ℕ) → at + 4 ≤ length s → k < 9 → length (getD rows k []) ≡ n → n ≤ agree (getD rows k []) (drop at s) → Passed s at (at + n)
+passed-row s at k n room p e h =
+    passed-length s at n (omega (arith, agree-fits (getD rows k []) (drop at s), length-drop at s)) (whole-row s at k room p n e h)
 
 nothing-begun : (s : List ℕ) (at : ℕ) → length s ≤ at → 0 ≡ best rows (drop at s)
 unfolding best agree rows
@@ -101,6 +109,25 @@ passed-ascii s at p q = passed-whole s at 1 true (starts-ascii s at p q) refl
 -- A bitwise or is ASCII only where both bytes are.
 pub or-ascii : (a b : ℕ) → bitOr a b < 0x80 → (a < 0x80) × (b < 0x80)
 or-ascii a b p = (omega (arith, or-add-and a b, and-le-r a b), omega (arith, or-add-and a b, and-le-l a b))
+
+pub plain-none : (s : List ℕ) (at : ℕ) → at ≤ length s → Plain s at (at + 0)
+plain-none s at p = record { inside = omega arith; each = λ i q r. absurd (omega (arith, q, r)) }
+
+pub plain-more : (s : List ℕ) (from n : ℕ) → Plain s from (from + n) → from + n < length s → getD s (from + n) 0 < 0x80 → Plain s from (from + n + 1)
+plain-more s from n h p q = record { inside = omega arith; each = λ i l u. go i (ltb i (from + n)) refl l u }
+  where
+    go : (i : ℕ) (t : Bool) → ltb i (from + n) ≡ t → from ≤ i → i < from + n + 1 → getD s i 0 < 0x80
+    go i true e l u = h .each i l (ltb-true _ _ e)
+    go i false e l u = let last : i ≡ from + n = omega (arith, ltb-false i (from + n) e) in rw last q
+
+-- ASCII is passed from every place in it on.
+pub passed-plain : (s : List ℕ) (from until at : ℕ) → Plain s from until → from ≤ at → at ≤ until → Passed s at until
+passed-plain s from until at h p q = go (until - at) at p (omega arith)
+  where
+    go : (n at : ℕ) → from ≤ at → at + n ≡ until → Passed s at until
+    go zero at p e = let end : at ≡ until = omega (arith, e) in rw end (passed-none s until (h .inside))
+    go (suc n) at p e =
+        passed-on (passed-ascii s at (omega (arith, h .inside, e)) (h .each at p (omega (arith, e)))) (go n (at + 1) (omega arith) (omega (arith, e)))
 
 -- ---- checked
 

@@ -1,20 +1,20 @@
 -- Laws of the table: its rows begin with different bytes, so that a text's first byte decides which row counts.
 use mathlib.Core.Path.{_≡_, refl, sym, ap, _∙_}
-use mathlib.Core.Bool.{Bool, true, false, cond, false≢true}
+use mathlib.Core.Bool.{Bool, true, false, cond, not, false≢true}
 use mathlib.Core.List.{List, [], _∷_}
 use Prim.Native.Nat.{ℕ, zero, suc, _+_, _≤_, _<_, zero-le}
 use native.Mathlib.Nat.{le-of-suc-le-suc, not-suc-le-zero, add-zero}
 use native.Mathlib.Numerals.{add-one}
 use native.Mathlib.Omega.{arith}
 use borrow.Author.Needs.{needs}
-use borrow.Author.Tests.{eqb-true}
+use borrow.Author.Tests.{eqb-true, eq-eqb, not-false}
 use lib.Dec.{eqb, eqb·zero-suc}
 use lib.ListN.{length, getD, drop, length-drop}
 use lib.Seq.{getD-drop}
 use Rattle.text.specs.declared.Row.{Row}
 use Rattle.text.specs.Utf8.{Range, _to_, within, rows, agree, seqLen, best}
 use Rattle.text.specs.Steps.{trail, rangeAt, ranges, rowFor, Starts}
-use Rattle.text.proofs.Agree.{in-range, below-range, above-range, range-in, agree-fits, agree-out, agree-in, length-ranges, range-at}
+use Rattle.text.proofs.Agree.{in-range, below-range, above-range, range-in, agree-fits, agree-out, agree-in, agree-grows, agree-lead, length-ranges, range-at}
 
 -- ---- the order of the rows
 
@@ -97,6 +97,39 @@ found-agrees (row ∷ l) s p q = go row (within (getD row 0 trail) (getD s 0 0))
     go [] true e h q = absurd (not-suc-le-zero q)
     go (r ∷ row) true e h q = agree-in r row s p e
     go row false e h q = h q
+
+-- A row all of whose ranges agree with the text is the first such row.
+full-row : (h : ℕ) (l : List (List Range)) (k : ℕ) (s : List ℕ) → Rising h l → k < length l → agree (getD l k []) s ≡ length (getD l k [])
+    → seqLen l s ≡ length (getD l k [])
+unfolding Rising seqLen
+full-row h [] k s o p e = absurd (not-suc-le-zero p)
+full-row h ([] ∷ l) k s o p e = absurd o
+full-row h ((r ∷ row) ∷ l) zero s o p e = rw (eq-eqb _ _ e)
+full-row h ((r ∷ row) ∷ l) (suc k) s o p e =
+    let next = rising-at (suc (r .high)) l k (o .2) (le-of-suc-le-suc p) in
+    let lead = range-in (getD (getD l k []) 0 trail) (getD s 0 0) (agree-lead (getD l k []) s (rw e (next .0))) in
+    let out = row-out r row l s (above-range r (getD s 0 0) (omega (arith, next .1, lead .0))) in
+    out .0 ∙ full-row (suc (r .high)) l k s (o .2) (le-of-suc-le-suc p) e
+
+-- ---- the tests of a row where four bytes are left
+
+module _ (text : List ℕ) (at k : ℕ) (room : at + 4 ≤ length text) (p : k < 9) where
+  pub grown : (row : Row) (i : ℕ) (t : Bool) → ranges row ≡ getD rows k [] → i < 4 → i < length (getD rows k []) → i ≤ agree (getD rows k []) (drop at text)
+      → t ≡ within (rangeAt row i) (getD text (at + i) 0) → t ≡ true → suc i ≤ agree (getD rows k []) (drop at text)
+  grown row i t is small in-row h test e =
+      let below : i < row .4 = omega (arith, length-ranges row, ap length is) in
+      let range : getD (getD rows k []) i trail ≡ rangeAt row i = rw (← is) (range-at row i below) in
+      agree-grows (getD rows k []) (drop at text) i h in-row (omega (arith, length-drop at text)) (rw (range, getD-drop at text i 0, ← test) e)
+
+  pub two-grown : (row : Row) (t u : Bool) → ranges row ≡ getD rows k [] → 2 ≤ length (getD rows k []) → t ≡ within (rangeAt row 0) (getD text at 0)
+      → u ≡ within (rangeAt row 1) (getD text (at + 1) 0) → not t ≡ false → u ≡ true → 2 ≤ agree (getD rows k []) (drop at text)
+  two-grown row t u is long first second f e =
+      let one = grown row 0 t is (omega arith) (omega arith) zero-le (rw (add-zero at) first) (not-false t f) in
+      grown row 1 u is (omega arith) (omega arith) one second e
+
+  pub whole-row : (n : ℕ) → length (getD rows k []) ≡ n → n ≤ agree (getD rows k []) (drop at text) → seqLen rows (drop at text) ≡ n
+  unfolding rows
+  whole-row n e h = full-row 0 rows k (drop at text) rows-rising p (omega (arith, agree-fits (getD rows k []) (drop at text))) ∙ e
 
 -- ---- the loop of `row_of`
 

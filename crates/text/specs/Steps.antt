@@ -30,6 +30,11 @@ pub record Starts (s : List ℕ) (at bytes : ℕ) (whole : Bool) : Type 0 where
   pub only-whole : seqLen rows (drop at s) ≡ cond whole bytes 0
   pub some : whole ≡ true → 0 < bytes
 
+-- The bytes of s from one place to another are ASCII.
+pub record Plain (s : List ℕ) (from until : ℕ) : Type 0 where
+  pub inside : until ≤ length s
+  pub each : (i : ℕ) → from ≤ i → i < until → getD s i 0 < 0x80
+
 -- Whole sequences stand in s from one place to another: what is good from either place on ends at the same byte.
 pub record Passed (s : List ℕ) (from until : ℕ) : Type 0 where
   pub forward : from ≤ until

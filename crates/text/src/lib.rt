@@ -6,7 +6,7 @@ ghost use Prim.Native.Nat.{_+_, _-_, _<_, _≤_, min, max};
 ghost use lib.ListN.{length, drop, getD};
 ghost use lib.Dec.{eqb};
 ghost use Rattle.text.specs.Utf8.{_to_, within, rows, agree, seqLen, goodLen, best, checked};
-ghost use Rattle.text.specs.Steps.{rangeAt, ranges, rowFor, Starts, Passed, Stopped};
+ghost use Rattle.text.specs.Steps.{rangeAt, ranges, rowFor, Starts, Plain, Passed, Stopped};
 
 // A row of Table 3-7 of the Unicode Standard: the least and the greatest first byte, the least and
 // the greatest second, where there is one, and how many bytes there are. A third and a fourth are
@@ -28,8 +28,10 @@ const ROWS: [Row; 9] = [
 // What stands for a row where no row has a byte.
 const NO_ROW: Row = Row(0, 0, 0, 0, 0);
 
-// How many bytes are tested for ASCII at once.
+// How many bytes are tested for ASCII at once, and how many where fewer are left.
 const BLOCK: usize = 32;
+
+const WORD: usize = 8;
 
 fn least(a: usize, b: usize) -> usize
     ensures { λ r. ⌜ r ≡ min a b ⌝ }
@@ -133,14 +135,14 @@ struct Stop {
     begun: usize,
 }
 
-// Passes whole sequences, as far as `end` or a bad one.
-fn walk(text: &[u8], from: usize, end: usize) -> Stop
-    requires { ⌜ (from ≤ length (now text)) × (end ≤ length (now text)) ⌝ }
+// Passes whole sequences, as far as the end or a bad one.
+fn walk(text: &[u8], from: usize) -> Stop
+    requires { ⌜ from ≤ length (now text) ⌝ }
     ensures { λ r. ⌜ Passed (now (text .entry)) from (r .at) ⌝ }
-    ensures { λ r. ⌜ (r .at < end → Stopped (now (text .entry)) (r .at) (r .begun)) ⌝ }
+    ensures { λ r. ⌜ Stopped (now (text .entry)) (r .at) (r .begun) ⌝ }
 {
     let mut at = from;
-    while at < end {
+    while at < text.len() {
         let found = sequence(text, at);
         if !found.whole {
             return Stop {
@@ -153,17 +155,109 @@ fn walk(text: &[u8], from: usize, end: usize) -> Stop
     Stop { at, begun: 0 }
 }
 
-// Whether a whole block of ASCII starts at `at`.
-fn ascii_at(text: &[u8], at: usize) -> bool
-    requires { ⌜ at ≤ length (now text) ⌝ }
-    ensures { λ r. ⌜ (r ≡ true → Passed (now (text .entry)) at (at + 32)) ⌝ }
+// Whether the first two bytes at a place agree with row k, which has as many at least. Four bytes are
+// there, so that no test asks for the end; where k is a constant, the bounds are constants too.
+fn two_agree(text: &[u8], at: usize, k: usize) -> bool
+    requires { ⌜ (at + 4 ≤ length (now text)) × (k < 9) ⌝ }
+    requires { ⌜ 2 ≤ length (getD rows k []) ⌝ }
+    ensures { λ r. ⌜ (r ≡ true → 2 ≤ agree (getD rows k []) (drop at (now (text .entry)))) ⌝ }
 {
-    if text.len() < at + BLOCK {
+    let row = row_at(k);
+    if !allows(row, 0, text[at]) {
+        return false;
+    }
+    allows(row, 1, text[at + 1])
+}
+
+fn three_agree(text: &[u8], at: usize, k: usize) -> bool
+    requires { ⌜ (at + 4 ≤ length (now text)) × (k < 9) ⌝ }
+    requires { ⌜ 3 ≤ length (getD rows k []) ⌝ }
+    ensures { λ r. ⌜ (r ≡ true → 3 ≤ agree (getD rows k []) (drop at (now (text .entry)))) ⌝ }
+{
+    if !two_agree(text, at, k) {
+        return false;
+    }
+    allows(row_at(k), 2, text[at + 2])
+}
+
+fn four_agree(text: &[u8], at: usize, k: usize) -> bool
+    requires { ⌜ (at + 4 ≤ length (now text)) × (k < 9) ⌝ }
+    requires { ⌜ 4 ≤ length (getD rows k []) ⌝ }
+    ensures { λ r. ⌜ (r ≡ true → 4 ≤ agree (getD rows k []) (drop at (now (text .entry)))) ⌝ }
+{
+    if !three_agree(text, at, k) {
+        return false;
+    }
+    allows(row_at(k), 3, text[at + 3])
+}
+
+// The length of the sequence at a place that four bytes stand at, 0 where none is whole. The rows of
+// many first bytes come before those of one.
+fn whole_at(text: &[u8], at: usize) -> usize
+    requires { ⌜ at + 4 ≤ length (now text) ⌝ }
+    ensures { λ r. ⌜ Passed (now (text .entry)) at (at + r) ⌝ }
+{
+    if text[at] < 0x80 {
+        return 1;
+    }
+    if two_agree(text, at, 1) {
+        return 2;
+    }
+    if three_agree(text, at, 3) {
+        return 3;
+    }
+    if three_agree(text, at, 5) {
+        return 3;
+    }
+    if four_agree(text, at, 7) {
+        return 4;
+    }
+    if three_agree(text, at, 2) {
+        return 3;
+    }
+    if three_agree(text, at, 4) {
+        return 3;
+    }
+    if four_agree(text, at, 6) {
+        return 4;
+    }
+    if four_agree(text, at, 8) {
+        return 4;
+    }
+    0
+}
+
+// Passes whole sequences as far as `end`, and stops before the text's last three bytes.
+fn stride(text: &[u8], from: usize, end: usize) -> usize
+    requires { ⌜ from ≤ length (now text) ⌝ }
+    ensures { λ r. ⌜ Passed (now (text .entry)) from r ⌝ }
+{
+    let mut at = from;
+    if text.len() < 4 {
+        return at;
+    }
+    let last = least(end, text.len() - 3);
+    while at < last {
+        let n = whole_at(text, at);
+        if n == 0 {
+            return at;
+        }
+        at += n;
+    }
+    at
+}
+
+// Whether the text has so many bytes from `at` on, all of them ASCII.
+fn ascii_at(text: &[u8], at: usize, width: usize) -> bool
+    requires { ⌜ (at ≤ length (now text)) × (width ≤ 32) ⌝ }
+    ensures { λ r. ⌜ (r ≡ true → Plain (now (text .entry)) at (at + width)) ⌝ }
+{
+    if text.len() < at + width {
         return false;
     }
     let mut bits: u8 = 0;
     let mut i = 0;
-    while i < BLOCK {
+    while i < width {
         bits = bits | text[at + i];
         i += 1;
     }
@@ -171,31 +265,51 @@ fn ascii_at(text: &[u8], at: usize) -> bool
 }
 
 // Passes blocks of ASCII.
-fn ascii_end(text: &[u8], from: usize) -> usize
+fn ascii_end(text: &[u8], from: usize, width: usize) -> usize
     requires { ⌜ from ≤ length (now text) ⌝ }
+    requires { ⌜ (0 < width) × (width ≤ 32) ⌝ }
     ensures { λ r. ⌜ Passed (now (text .entry)) from r ⌝ }
 {
     let mut at = from;
-    while ascii_at(text, at) {
-        at += BLOCK;
+    while ascii_at(text, at, width) {
+        at += width;
     }
     at
 }
 
-// Where the longest well-formed beginning ends. A block that is not all ASCII is walked at once, so
-// that no byte is looked at more than twice.
+// Whether what is left is shorter than a word, and the text's last word is ASCII.
+fn ascii_rest(text: &[u8], from: usize) -> bool
+    requires { ⌜ from ≤ length (now text) ⌝ }
+    ensures { λ r. ⌜ (r ≡ true → Passed (now (text .entry)) from (length (now (text .entry)))) ⌝ }
+{
+    if text.len() < WORD {
+        return false;
+    }
+    let at = text.len() - WORD;
+    if from < at {
+        return false;
+    }
+    ascii_at(text, at, WORD)
+}
+
+// Where the longest well-formed beginning ends. A block that is not all ASCII is passed by its
+// sequences before ASCII is tried again, so that the time is linear.
 fn scan(text: &[u8]) -> Stop
     ensures { λ r. ⌜ Passed (now (text .entry)) 0 (r .at) ⌝ }
     ensures { λ r. ⌜ Stopped (now (text .entry)) (r .at) (r .begun) ⌝ }
 {
+    let n = text.len();
     let mut at = 0;
-    while at < text.len() {
-        let from = ascii_end(text, at);
-        let end = least(from + BLOCK, text.len());
-        let stop = walk(text, from, end);
-        at = stop.at;
+    while at < n {
+        let blocks = ascii_end(text, at, BLOCK);
+        let words = ascii_end(text, blocks, WORD);
+        if ascii_rest(text, words) {
+            return Stop { at: n, begun: 0 };
+        }
+        let end = least(words + BLOCK, n);
+        at = stride(text, words, end);
         if at < end {
-            return stop;
+            return walk(text, at);
         }
     }
     Stop { at, begun: 0 }

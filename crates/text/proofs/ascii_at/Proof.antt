@@ -1,21 +1,21 @@
 use mathlib.Core.Path.{_≡_}
 use mathlib.Core.Bool.{false≢true}
 use Prim.Native.Nat.{_+_, _-_, _≤_, _<_}
-use native.Mathlib.Nat.{add-zero, add-assoc}
+use native.Mathlib.Nat.{add-assoc}
 use native.Mathlib.Omega.{arith}
 use borrow.Author.Tests.{ltb-true}
 use borrow.Author.Needs.{needs}
 use lib.ListN.{length, getD}
-use Rattle.text.specs.Steps.{Passed}
-use Rattle.text.proofs.Laws.{passed-none, passed-on, passed-ascii, or-ascii}
+use Rattle.text.specs.Steps.{Plain}
+use Rattle.text.proofs.Laws.{plain-none, plain-more, or-ascii}
 use Rattle.text.proofs.ascii_at.Statement.{statement}
 use Rattle.text.proofs.ascii_at.Tie as tie
 
 abbrev Inv-loop : tie.InvT-loop
-Inv-loop text at bits₀ i₀ bits i = (i ≤ 32) × (at + i ≤ length text) × (bits < 0x80 → Passed text at (at + i))
+Inv-loop text at width bits₀ i₀ bits i = (i ≤ width) × (at + i ≤ length text) × (bits < 0x80 → Plain text at (at + i))
 
 abbrev μ-loop : tie.MeasureT-loop
-μ-loop text at bits₀ i₀ bits i = 32 - i
+μ-loop text at width bits₀ i₀ bits i = width - i
 
 add-if1 : tie.Need-add-if1 Inv-loop μ-loop
 add-if1 c = search needs
@@ -26,7 +26,7 @@ returns c e = absurd (false≢true e)
 loop-holds : tie.Need-loop-holds Inv-loop μ-loop
 loop-holds c =
     let a = c .before .args in
-    (omega arith, omega arith, λ _. rw (add-zero (a .at)) (passed-none (a .text .now) (a .at) (omega arith)))
+    (omega arith, omega arith, λ _. plain-none (a .text .now) (a .at) (omega arith))
 
 add-bits : tie.Need-add-bits Inv-loop μ-loop
 add-bits c = search needs
@@ -49,13 +49,13 @@ loop-again c =
       omega arith,
       λ p.
           let both = or-ascii (l .loop .bits) (getD (a .text .now) (a .at + i) 0) p in
-          rw (add-assoc (a .at) i 1) at (passed-on (l .loop .inv .2 (both .0)) (passed-ascii (a .text .now) (a .at + i) (omega arith) (both .1))),
+          rw (add-assoc (a .at) i 1) at (plain-more (a .text .now) (a .at) i (l .loop .inv .2 (both .0)) (omega arith) (both .1)),
     )
 
 returns-2 : tie.Need-returns-2 Inv-loop μ-loop
 returns-2 c e =
     let l = c .before in
-    let end : l .loop .i ≡ 32 = omega arith in
+    let end : l .loop .i ≡ l .before .before .args .width = omega arith in
     rw end at (l .loop .inv .2 (ltb-true _ _ e))
 
 pub ascii-at-spec : {M : Type 1} → statement M

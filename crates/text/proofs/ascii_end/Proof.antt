@@ -3,15 +3,15 @@ use native.Mathlib.Omega.{arith}
 use borrow.Author.Needs.{needs}
 use lib.ListN.{length}
 use Rattle.text.specs.Steps.{Passed}
-use Rattle.text.proofs.Laws.{passed-on}
+use Rattle.text.proofs.Laws.{passed-on, passed-plain}
 use Rattle.text.proofs.ascii_end.Statement.{statement}
 use Rattle.text.proofs.ascii_end.Tie as tie
 
 abbrev Inv-loop : tie.InvT-loop
-Inv-loop text from at₀ at = Passed text from at
+Inv-loop text from width at₀ at = Passed text from at
 
 abbrev μ-loop : tie.MeasureT-loop
-μ-loop text from at₀ at = length text - at
+μ-loop text from width at₀ at = length text - at
 
 loop-holds : tie.Need-loop-holds Inv-loop μ-loop
 loop-holds c = search needs
@@ -27,7 +27,10 @@ loop-less c =
     omega (arith, (c .before .ascii-at .ensures (c .if1 .taken)) .inside)
 
 loop-again : tie.Need-loop-again Inv-loop μ-loop
-loop-again c = passed-on (c .before .before .loop .inv) (c .before .ascii-at .ensures (c .if1 .taken))
+loop-again c =
+    let l = c .before .before in
+    let block = c .before .ascii-at .ensures (c .if1 .taken) in
+    passed-on (l .loop .inv) (passed-plain _ _ _ (l .loop .at) block (omega arith) (omega arith))
 
 returns : tie.Need-returns Inv-loop μ-loop
 returns c = search needs

@@ -4,15 +4,15 @@ use borrow.Author.Needs.{needs}
 use borrow.Author.Tests.{not-false}
 use lib.ListN.{length}
 use Rattle.text.specs.Steps.{Passed}
-use Rattle.text.proofs.Laws.{passed-none, passed-on, passed-whole, stopped-at}
+use Rattle.text.proofs.Laws.{passed-none, passed-on, passed-whole, stopped-at, stopped-end}
 use Rattle.text.proofs.walk.Statement.{statement}
 use Rattle.text.proofs.walk.Tie as tie
 
 abbrev Inv-loop : tie.InvT-loop
-Inv-loop text from end at₀ at = Passed text from at
+Inv-loop text from at₀ at = Passed text from at
 
 abbrev μ-loop : tie.MeasureT-loop
-μ-loop text from end at₀ at = length text - at
+μ-loop text from at₀ at = length text - at
 
 loop-holds : tie.Need-loop-holds Inv-loop μ-loop
 loop-holds c = search passed-none
@@ -21,7 +21,7 @@ sequence-requires : tie.Need-sequence-requires Inv-loop μ-loop
 sequence-requires c κs = search needs
 
 returns : tie.Need-returns Inv-loop μ-loop
-returns c = (c .before .before .before .before .loop .inv, λ p. search stopped-at)
+returns c = (c .before .before .before .before .loop .inv, search stopped-at)
 
 add-at : tie.Need-add-at Inv-loop μ-loop
 add-at c = search needs
@@ -33,7 +33,7 @@ loop-again : tie.Need-loop-again Inv-loop μ-loop
 loop-again c = passed-on (c .before .before .before .before .before .loop .inv) (search passed-whole)
 
 returns-2 : tie.Need-returns-2 Inv-loop μ-loop
-returns-2 c = (c .before .loop .inv, λ p. absurd (omega arith))
+returns-2 c = (c .before .loop .inv, search stopped-end)
 
 pub walk-spec : {M : Type 1} → statement M
 walk-spec =
