@@ -9,20 +9,27 @@ ghost use lib.ListN.{length};
 ghost use mathlib.Core.List.{_++_};
 ghost use Rattle.answer.specs.Paper.{numberOf};
 ghost use Rattle.octets.specs.Octets.{put};
-ghost use Rattle.image.specs.Image.{head, told, laid, whole, numbered, changed, reported};
+ghost use Rattle.image.specs.Image.{Plain4, Plain6, head, told, laid, whole, numbered, changed, reported};
 ghost use Rattle.f_teid.specs.Fteid.{read};
 ghost use Rattle.f_teid_image.specs.FteidImage.{recordImage, imageOf, recordAt, writes, stores};
 
 // How long an image is.
 pub const SIZE: usize = 71;
 
-// Puts a whole image, from the back to the front.
+// Puts a whole image, from the back to the front. The test tells the compiler what `requires` says, so that no put tests the room again.
 fn put_image(out: &mut [u8], answer: Answer, used: usize, record: Fteid)
     requires { ⌜ 71 ≤ length (now out) ⌝ }
+    requires { ⌜ Plain4 («record» .«ipv4_address») ⌝ }
+    requires { ⌜ Plain6 («record» .«ipv6_address») ⌝ }
     ensures { λ _. ⌜ now (out .exit) ≡ put (now (out .entry)) 0 (head answer used ++ recordImage «record») ⌝ }
 {
+    if out.len() < SIZE {
+        return;
+    }
     let ipv4_address = record.ipv4_address;
     let ipv6_address = record.ipv6_address;
+    let octets4 = ipv4_address.octets;
+    let octets6 = ipv6_address.octets;
     let given = octets::flag_byte(
         ipv4_address.given,
         ipv6_address.given,
@@ -43,8 +50,8 @@ fn put_image(out: &mut [u8], answer: Answer, used: usize, record: Fteid)
         false,
         false,
     );
-    image::put_ipv6(out, 55, ipv6_address);
-    image::put_ipv4(out, 51, ipv4_address);
+    octets::put_bytes(out, 55, &octets6);
+    octets::put_bytes(out, 51, &octets4);
     octets::put_byte(out, 50, record.choose_id);
     image::put_u64(out, 42, record.teid.0 as u64);
     octets::put_byte(out, 41, given);
@@ -55,6 +62,8 @@ fn put_image(out: &mut [u8], answer: Answer, used: usize, record: Fteid)
 // Puts what a read answered, and says its number. A read that is done has its own way, so that it stores the zeros of its head at once.
 fn put_read(out: &mut [u8], read: FteidRead) -> u64
     requires { ⌜ 71 ≤ length (now out) ⌝ }
+    requires { ⌜ Plain4 (read .«record» .«ipv4_address») ⌝ }
+    requires { ⌜ Plain6 (read .«record» .«ipv6_address») ⌝ }
     ensures { λ r. ⌜ r ≡ numberOf (read .answer) ⌝ }
     ensures { λ r. ⌜ now (out .exit) ≡ put (now (out .entry)) 0 (imageOf read) ⌝ }
 {

@@ -9,20 +9,27 @@ ghost use lib.ListN.{length};
 ghost use mathlib.Core.List.{_++_};
 ghost use Rattle.answer.specs.Paper.{numberOf};
 ghost use Rattle.octets.specs.Octets.{put};
-ghost use Rattle.image.specs.Image.{head, told, laid, whole, numbered, changed, reported};
+ghost use Rattle.image.specs.Image.{Plain4, Plain6, head, told, laid, whole, numbered, changed, reported};
 ghost use Rattle.fseid.specs.Fseid.{read};
 ghost use Rattle.fseid_image.specs.FseidImage.{recordImage, imageOf, recordAt, writes, stores};
 
 // How long an image is.
 pub const SIZE: usize = 70;
 
-// Puts a whole image, from the back to the front.
+// Puts a whole image, from the back to the front. The test tells the compiler what `requires` says, so that no put tests the room again.
 fn put_image(out: &mut [u8], answer: Answer, used: usize, record: Fseid)
     requires { ⌜ 70 ≤ length (now out) ⌝ }
+    requires { ⌜ Plain4 («record» .«ipv4_address») ⌝ }
+    requires { ⌜ Plain6 («record» .«ipv6_address») ⌝ }
     ensures { λ _. ⌜ now (out .exit) ≡ put (now (out .entry)) 0 (head answer used ++ recordImage «record») ⌝ }
 {
+    if out.len() < SIZE {
+        return;
+    }
     let ipv4_address = record.ipv4_address;
     let ipv6_address = record.ipv6_address;
+    let octets4 = ipv4_address.octets;
+    let octets6 = ipv6_address.octets;
     let given = octets::flag_byte(
         ipv4_address.given,
         ipv6_address.given,
@@ -43,8 +50,8 @@ fn put_image(out: &mut [u8], answer: Answer, used: usize, record: Fseid)
         false,
         false,
     );
-    image::put_ipv6(out, 54, ipv6_address);
-    image::put_ipv4(out, 50, ipv4_address);
+    octets::put_bytes(out, 54, &octets6);
+    octets::put_bytes(out, 50, &octets4);
     image::put_u64(out, 42, record.seid.0);
     octets::put_byte(out, 41, given);
     octets::put_byte(out, 40, flags);
@@ -54,6 +61,8 @@ fn put_image(out: &mut [u8], answer: Answer, used: usize, record: Fseid)
 // Puts what a read answered, and says its number. A read that is done has its own way, so that it stores the zeros of its head at once.
 fn put_read(out: &mut [u8], read: FseidRead) -> u64
     requires { ⌜ 70 ≤ length (now out) ⌝ }
+    requires { ⌜ Plain4 (read .«record» .«ipv4_address») ⌝ }
+    requires { ⌜ Plain6 (read .«record» .«ipv6_address») ⌝ }
     ensures { λ r. ⌜ r ≡ numberOf (read .answer) ⌝ }
     ensures { λ r. ⌜ now (out .exit) ≡ put (now (out .entry)) 0 (imageOf read) ⌝ }
 {

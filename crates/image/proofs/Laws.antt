@@ -6,15 +6,15 @@ use mathlib.Core.Bool.{Bool, true, false, not}
 use mathlib.Core.List.{List, [], _∷_, _++_, append-assoc}
 use lib.ListN.{length, take, drop, getD, replicate, length-append, length-replicate}
 use lib.Seq.{take-at, drop-at, take-add, length-take-le}
-use lib.Dec.{leb}
+use lib.Dec.{leb, eqb}
 use borrow.Author.Tests.{le-leb, lt-leb, leb-true, not-true, not-false}
 use Rattle.answer.specs.declared.Answer.{Answer}
 use Rattle.answer.specs.declared.Answer.the-variants.{Done}
 use Rattle.answer.specs.declared.Written.{Written}
 use Rattle.answer.specs.Paper.{numberOf}
-use Rattle.octets.specs.Octets.{pick, over, put}
+use Rattle.octets.specs.Octets.{pick, ipv4Of, ipv6Of, over, put}
 use Rattle.octets.proofs.Laws.{put-fits, length-over}
-use Rattle.image.specs.Image.{low, lowNumber, filled, head, report, told, laid, numbered, changed, reported}
+use Rattle.image.specs.Image.{low, lowNumber, filled, Plain4, Plain6, head, report, told, laid, numbered, changed, reported}
 
 -- ---- numbers
 pub length-low : (w x : ℕ) → length (low w x) ≡ w
@@ -97,6 +97,23 @@ pub length-filled : (w : ℕ) (g : Bool) (bs : List ℕ) → length bs ≡ w →
 unfolding filled
 length-filled w true bs e = e
 length-filled w false bs e = length-replicate w 0
+
+-- the addresses that a reader makes are zeros where they are absent
+pub plain4 : (bs : List ℕ) → Plain4 (ipv4Of bs)
+unfolding ipv4Of filled
+plain4 bs = either (eqb (length bs) 4)
+  where
+    either : (t : Bool) → Plain4 (pick t (record { given = true; octets = bs }) (record { given = false; octets = replicate 4 0 }))
+    either true = refl
+    either false = refl
+
+pub plain6 : (bs : List ℕ) → Plain6 (ipv6Of bs)
+unfolding ipv6Of filled
+plain6 bs = either (eqb (length bs) 16)
+  where
+    either : (t : Bool) → Plain6 (pick t (record { given = true; octets = bs }) (record { given = false; octets = replicate 16 0 }))
+    either true = refl
+    either false = refl
 
 pub length-head : (a : Answer) (n : ℕ) → length (head a n) ≡ 40
 unfolding head

@@ -1,5 +1,6 @@
 -- Record images: what a read or a write hands over, in lent bytes of a fixed layout.
 use Prim.Native.Nat.{ℕ, zero, suc, _+_, _*_, _/_, _%_}
+use mathlib.Core.Path.{_≡_}
 use mathlib.Core.Bool.{Bool, _&&_}
 use mathlib.Core.List.{List, [], _∷_, _++_}
 use lib.Dec.{leb}
@@ -7,6 +8,8 @@ use lib.ListN.{length, replicate}
 use Rattle.answer.specs.declared.Answer.{Answer}
 use Rattle.answer.specs.declared.Written.{Written}
 use Rattle.answer.specs.Paper.{numberOf, valuesOf}
+use Rattle.octets.specs.declared.MaybeIpv4.{MaybeIpv4}
+use Rattle.octets.specs.declared.MaybeIpv6.{MaybeIpv6}
 use Rattle.octets.specs.Octets.{pick, field, put}
 
 -- the lowest w bytes of a number, least significant first
@@ -26,6 +29,13 @@ numberAt m at = lowNumber (field m at 8)
 -- the w bytes of a field, zeros where it is absent
 unfoldable pub filled : ℕ → Bool → List ℕ → List ℕ
 filled w given bs = pick given bs (replicate w 0)
+
+-- an address whose bytes are zeros where it is absent, as a reader makes it
+abbrev pub Plain4 : MaybeIpv4 → Type 0
+Plain4 a = filled 4 (a .given) (a .octets) ≡ a .octets
+
+abbrev pub Plain6 : MaybeIpv6 → Type 0
+Plain6 a = filled 16 (a .given) (a .octets) ≡ a .octets
 
 -- what an image begins with: the answer's number and values, and the used count
 unfoldable pub head : Answer → ℕ → List ℕ

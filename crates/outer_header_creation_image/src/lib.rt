@@ -13,22 +13,29 @@ ghost use lib.ListN.{length};
 ghost use mathlib.Core.List.{_++_};
 ghost use Rattle.answer.specs.Paper.{numberOf};
 ghost use Rattle.octets.specs.Octets.{put};
-ghost use Rattle.image.specs.Image.{head, told, laid, whole, numbered, changed, reported};
+ghost use Rattle.image.specs.Image.{Plain4, Plain6, head, told, laid, whole, numbered, changed, reported};
 ghost use Rattle.outer_header_creation.specs.OuterHeaderCreation.{read};
 ghost use Rattle.outer_header_creation_image.specs.OuterHeaderCreationImage.{recordImage, imageOf, recordAt, writes, stores};
 
 // How long an image is.
 pub const SIZE: usize = 94;
 
-// Puts a whole image, from the back to the front.
+// Puts a whole image, from the back to the front. The test tells the compiler what `requires` says, so that no put tests the room again.
 fn put_image(out: &mut [u8], answer: Answer, used: usize, record: OuterHeaderCreation)
     requires { ⌜ 94 ≤ length (now out) ⌝ }
+    requires { ⌜ Plain4 («record» .«ipv4_address») ⌝ }
+    requires { ⌜ Plain6 («record» .«ipv6_address») ⌝ }
     ensures { λ _. ⌜ now (out .exit) ≡ put (now (out .entry)) 0 (head answer used ++ recordImage «record») ⌝ }
 {
+    if out.len() < SIZE {
+        return;
+    }
     let description = record.description;
     let teid = record.teid;
     let ipv4_address = record.ipv4_address;
     let ipv6_address = record.ipv6_address;
+    let octets4 = ipv4_address.octets;
+    let octets6 = ipv6_address.octets;
     let port = record.port_number;
     let ctag = record.ctag;
     let stag = record.stag;
@@ -52,8 +59,8 @@ fn put_image(out: &mut [u8], answer: Answer, used: usize, record: OuterHeaderCre
         description.ctag,
         description.stag,
     );
-    image::put_ipv6(out, 78, ipv6_address);
-    image::put_ipv4(out, 74, ipv4_address);
+    octets::put_bytes(out, 78, &octets6);
+    octets::put_bytes(out, 74, &octets4);
     image::put_u64(out, 66, stag.value as u64);
     image::put_u64(out, 58, ctag.value as u64);
     image::put_u64(out, 50, port.value as u64);
@@ -66,6 +73,8 @@ fn put_image(out: &mut [u8], answer: Answer, used: usize, record: OuterHeaderCre
 // Puts what a read answered, and says its number. A read that is done has its own way, so that it stores the zeros of its head at once.
 fn put_read(out: &mut [u8], read: OuterHeaderCreationRead) -> u64
     requires { ⌜ 94 ≤ length (now out) ⌝ }
+    requires { ⌜ Plain4 (read .«record» .«ipv4_address») ⌝ }
+    requires { ⌜ Plain6 (read .«record» .«ipv6_address») ⌝ }
     ensures { λ r. ⌜ r ≡ numberOf (read .answer) ⌝ }
     ensures { λ r. ⌜ now (out .exit) ≡ put (now (out .entry)) 0 (imageOf read) ⌝ }
 {

@@ -9,20 +9,27 @@ ghost use lib.ListN.{length};
 ghost use mathlib.Core.List.{_++_};
 ghost use Rattle.answer.specs.Paper.{numberOf};
 ghost use Rattle.octets.specs.Octets.{put};
-ghost use Rattle.image.specs.Image.{head, told, laid, whole, numbered, changed, reported};
+ghost use Rattle.image.specs.Image.{Plain4, Plain6, head, told, laid, whole, numbered, changed, reported};
 ghost use Rattle.ue_ip_address.specs.UeIpAddress.{read};
 ghost use Rattle.ue_ip_address_image.specs.UeIpAddressImage.{recordImage, imageOf, recordAt, writes, stores};
 
 // How long an image is.
 pub const SIZE: usize = 64;
 
-// Puts a whole image, from the back to the front.
+// Puts a whole image, from the back to the front. The test tells the compiler what `requires` says, so that no put tests the room again.
 fn put_image(out: &mut [u8], answer: Answer, used: usize, record: UeIpAddress)
     requires { ⌜ 64 ≤ length (now out) ⌝ }
+    requires { ⌜ Plain4 («record» .«ipv4_address») ⌝ }
+    requires { ⌜ Plain6 («record» .«ipv6_address») ⌝ }
     ensures { λ _. ⌜ now (out .exit) ≡ put (now (out .entry)) 0 (head answer used ++ recordImage «record») ⌝ }
 {
+    if out.len() < SIZE {
+        return;
+    }
     let ipv4_address = record.ipv4_address;
     let ipv6_address = record.ipv6_address;
+    let octets4 = ipv4_address.octets;
+    let octets6 = ipv6_address.octets;
     let bits = record.ipv6_prefix_delegation_bits;
     let prefix = record.ipv6_prefix_length;
     let given = octets::flag_byte(
@@ -45,8 +52,8 @@ fn put_image(out: &mut [u8], answer: Answer, used: usize, record: UeIpAddress)
         record.ipv6_prefix_length_present,
         false,
     );
-    image::put_ipv6(out, 48, ipv6_address);
-    image::put_ipv4(out, 44, ipv4_address);
+    octets::put_bytes(out, 48, &octets6);
+    octets::put_bytes(out, 44, &octets4);
     octets::put_byte(out, 43, prefix.value);
     octets::put_byte(out, 42, bits.value);
     octets::put_byte(out, 41, given);
@@ -57,6 +64,8 @@ fn put_image(out: &mut [u8], answer: Answer, used: usize, record: UeIpAddress)
 // Puts what a read answered, and says its number. A read that is done has its own way, so that it stores the zeros of its head at once.
 fn put_read(out: &mut [u8], read: UeIpAddressRead) -> u64
     requires { ⌜ 64 ≤ length (now out) ⌝ }
+    requires { ⌜ Plain4 (read .«record» .«ipv4_address») ⌝ }
+    requires { ⌜ Plain6 (read .«record» .«ipv6_address») ⌝ }
     ensures { λ r. ⌜ r ≡ numberOf (read .answer) ⌝ }
     ensures { λ r. ⌜ now (out .exit) ≡ put (now (out .entry)) 0 (imageOf read) ⌝ }
 {

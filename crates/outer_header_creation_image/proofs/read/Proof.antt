@@ -1,8 +1,24 @@
 -- `outer_header_creation_image::read` meets its contract: by the room.
-use Rattle.image.proofs.Laws.{told-short, told-long, laid-short, laid-long}
+use Prim.Native.Nat.{ℕ}
+use mathlib.Core.Path.{_≡_, refl}
+use mathlib.Core.List.{List}
+use Rattle.kind.specs.Layout.{Outcome, accepts, refuses, outcome}
+use Rattle.image.specs.Image.{filled, Plain4, Plain6}
+use Rattle.outer_header_creation.specs.declared.OuterHeaderCreationRead.{OuterHeaderCreationRead}
+use Rattle.outer_header_creation.specs.OuterHeaderCreation.{layout, recordWith, refused, found, read}
+use Rattle.image.proofs.Laws.{plain4, plain6, told-short, told-long, laid-short, laid-long}
 use borrow.Author.Needs.{needs}
 use Rattle.outer_header_creation_image.proofs.read.Statement.{statement}
 use Rattle.outer_header_creation_image.proofs.read.Tie as tie
+
+-- the addresses of a record that was read
+plain : (s : List ℕ) (r : OuterHeaderCreationRead) → r ≡ read s → Plain4 (r .«record» .«ipv4_address») × Plain6 (r .«record» .«ipv6_address»)
+unfolding read found refused recordWith filled
+plain s r e = rw e (either (outcome layout s))
+  where
+    either : (o : Outcome) → Plain4 (found s o .«record» .«ipv4_address») × Plain6 (found s o .«record» .«ipv6_address»)
+    either (accepts n) = (plain4 _, plain6 _)
+    either (refuses a) = (refl, refl)
 
 returns : tie.Need-returns
 returns c = (told-short 94 _ _ (c .if1 .taken), laid-short 94 _ _ (c .if1 .taken))
@@ -11,7 +27,7 @@ unmarshal-requires : tie.Need-unmarshal-requires
 unmarshal-requires c κs = search needs
 
 put-read-requires : tie.Need-put-read-requires
-put-read-requires c κs = search needs
+put-read-requires c κs = (c .before .before .if1 .left, plain _ _ (c .unmarshal .ensures))
 
 same-length : tie.Need-same-length
 same-length c = search needs
