@@ -6,8 +6,9 @@ use mathlib.Core.Bool.{Bool}
 use mathlib.Core.List.{List, _∷_}
 use lib.ListN.{length, getD, take, drop}
 use borrow.Author.Tests.{le-leb, lt-leb}
-use Rattle.answer.specs.declared.Answer.the-variants.{Done, Short, Flags, TooLong, NoRoom}
-use Rattle.answer.specs.Paper.{written}
+use Rattle.answer.specs.declared.Answer.{Answer}
+use Rattle.answer.specs.declared.Answer.the-variants.{Done, Short, Flags, NodeType, NotUtf8, TooLong, BadText, TooWide, NoRoom, Unbuilt}
+use Rattle.answer.specs.Paper.{numberOf, written}
 use Rattle.octets.specs.Octets.{bit, under, put}
 use Rattle.octets.proofs.Laws.{put-not, Puts, put-row}
 use Rattle.kind.specs.Layout.{Wanted, wanted, Layout, Outcome, accepts, refuses, judged, outcome}
@@ -43,6 +44,19 @@ module _ {Read : Type 0} (found : List ℕ → Outcome → Read) (l : Layout) (s
 
       pub all-there : (e : ℕ) → e ≡ end l s → e ≤ length s → r ≡ found s (accepts e) → r ≡ found s (outcome l s)
       all-there e p h q = rw (whole l s fits free (omega arith), ← p) q
+
+-- an answer whose number is 0 is done
+pub number-is-done : (a : Answer) → numberOf a ≡ 0 → a ≡ Done
+number-is-done Done e = refl
+number-is-done (Short f x y) e = absurd (omega arith)
+number-is-done (Flags b r) e = absurd (omega arith)
+number-is-done (NodeType b) e = absurd (omega arith)
+number-is-done (NotUtf8 p) e = absurd (omega arith)
+number-is-done (TooLong n) e = absurd (omega arith)
+number-is-done (BadText f) e = absurd (omega arith)
+number-is-done TooWide e = absurd (omega arith)
+number-is-done (NoRoom n) e = absurd (omega arith)
+number-is-done (Unbuilt r) e = absurd (omega arith)
 
 -- the width of a field under a flag that was read
 pub width-under : (s : List ℕ) (k w : ℕ) (f : Bool) (u : ℕ) → f ≡ bit k (getD s 0 0) → u ≡ under f w → u ≡ under (bit k (getD s 0 0)) w

@@ -8,8 +8,8 @@ use octets::MaybeU32;
 use types::MaybeTeid;
 use types::Teid;
 ghost use mathlib.Core.Path.{_≡_};
-ghost use Prim.Native.Nat.{_≤_};
-ghost use lib.ListN.{length};
+ghost use Prim.Native.Nat.{_≤_, _<_};
+ghost use lib.ListN.{length, getD};
 ghost use Rattle.octets.specs.Octets.{put};
 ghost use Rattle.answer.specs.declared.Answer.the-variants.{Short};
 ghost use Rattle.answer.specs.Paper.{written};
@@ -142,15 +142,48 @@ fn refused(answer: Answer) -> OuterHeaderCreationRead
     }
 }
 
-// A read that is refused since a field isn't all there.
-fn short(field: u8, expected: usize, actual: usize) -> OuterHeaderCreationRead
-    ensures { λ r. ⌜ r ≡ refused (Short field expected actual) ⌝ }
+// The answer where a field isn't all there.
+fn short(field: u8, expected: usize, actual: usize) -> Answer
+    ensures { λ r. ⌜ r ≡ Short field expected actual ⌝ }
 {
-    refused(Answer::Short {
+    Answer::Short {
         field,
         expected,
         actual,
-    })
+    }
+}
+
+// The answer where not all the fields are there: the first that isn't.
+fn cut(payload: &[u8], ends: Ends) -> Answer
+    requires { ⌜ length (now payload) ≤ 65535 ⌝ }
+    requires { ⌜ 2 ≤ length (now payload) ⌝ }
+    requires { ⌜ ends ≡ endsOf (asked (flagsOf (getD (now payload) 0 0))) ⌝ }
+    requires { ⌜ length (now payload) < ends .stag ⌝ }
+    ensures { λ r. ⌜ r ≡ read (now (payload .entry)) .answer ⌝ }
+{
+    let n = payload.len();
+    let end_teid = ends.teid;
+    if n < end_teid {
+        return short(6, end_teid, n);
+    }
+    let end_ipv4 = ends.ipv4;
+    if n < end_ipv4 {
+        return short(1, end_ipv4, n);
+    }
+    let end_ipv6 = ends.ipv6;
+    if n < end_ipv6 {
+        return short(2, end_ipv6, n);
+    }
+    let end_port = ends.port;
+    if n < end_port {
+        return short(7, end_port, n);
+    }
+    let end_ctag = ends.ctag;
+    if n < end_ctag {
+        return short(8, end_ctag, n);
+    }
+    let end_stag = ends.stag;
+    short(9, end_stag, n)
 }
 
 impl OuterHeaderCreationFlags {
@@ -354,42 +387,36 @@ impl OuterHeaderCreation {
         self
     }
 
-    pub fn unmarshal(payload: &[u8]) -> OuterHeaderCreationRead
-        ensures { λ r. ⌜ r ≡ read (now (payload .entry)) ⌝ }
+    // What reading a payload answers, without the record.
+    pub fn answer(payload: &[u8]) -> Answer
+        ensures { λ r. ⌜ r ≡ read (now (payload .entry)) .answer ⌝ }
     {
         let n = payload.len();
         if 65535 < n {
-            return refused(Answer::TooLong { length: n });
+            return Answer::TooLong { length: n };
         }
         if n < OuterHeaderCreation::MIN_LEN {
             return short(0, OuterHeaderCreation::MIN_LEN, n);
         }
         let description = OuterHeaderCreationFlags::of(payload[0]);
         let ends = ends_of(description.asked());
-        let end_teid = ends.teid;
-        if n < end_teid {
-            return short(6, end_teid, n);
-        }
-        let end_ipv4 = ends.ipv4;
-        if n < end_ipv4 {
-            return short(1, end_ipv4, n);
-        }
-        let end_ipv6 = ends.ipv6;
-        if n < end_ipv6 {
-            return short(2, end_ipv6, n);
-        }
-        let end_port = ends.port;
-        if n < end_port {
-            return short(7, end_port, n);
-        }
-        let end_ctag = ends.ctag;
-        if n < end_ctag {
-            return short(8, end_ctag, n);
-        }
         let end_stag = ends.stag;
         if n < end_stag {
-            return short(9, end_stag, n);
+            return cut(payload, ends);
         }
+        Answer::Done
+    }
+
+    pub fn unmarshal(payload: &[u8]) -> OuterHeaderCreationRead
+        ensures { λ r. ⌜ r ≡ read (now (payload .entry)) ⌝ }
+    {
+        let answer = OuterHeaderCreation::answer(payload);
+        if answer.number() != 0 {
+            return refused(answer);
+        }
+        let description = OuterHeaderCreationFlags::of(payload[0]);
+        let ends = ends_of(description.asked());
+        let end_stag = ends.stag;
         OuterHeaderCreationRead {
             answer: Answer::Done,
             used: end_stag,

@@ -90,7 +90,7 @@ pub fn node_id(payload: &[u8]) -> bool
 pub fn outer_header_creation(payload: &[u8]) -> bool
     ensures { λ r. ⌜ r ≡ outerHeaderCreation (now (payload .entry)) ⌝ }
 {
-    let header_answer = OuterHeaderCreation::unmarshal(payload).answer;
+    let header_answer = OuterHeaderCreation::answer(payload);
     judged(header_answer, true)
 }
 
