@@ -178,6 +178,75 @@ number-bytes (suc w) x h =
     let h′ : x / 256 < 256 ^ w = div-lt-iff-lt-mul {k = 256} (lit< tt) .1 (rw pow-suc at h) in
     behind-append 0 (bytesOf w (x / 256)) (x % 256 ∷ []) ∙ rw (number-bytes w (x / 256) h′) (div-add-mod' x 256)
 
+-- the digits of four bytes, least significant first
+module _ (a b c d x : ℕ) (ha : a < 256) (hb : b < 256) (hc : c < 256) (e : x ≡ a + b * 256 + c * 65536 + d * 16777216) where
+  above-one : x ≡ (b + c * 256 + d * 65536) * 256 + a
+  above-one = omega arith
+
+  above-two : x ≡ (c + d * 256) * 65536 + (b * 256 + a)
+  above-two = omega arith
+
+  above-three : x ≡ d * 16777216 + (c * 65536 + b * 256 + a)
+  above-three = omega arith
+
+  digit-one : x % 256 ≡ a
+  digit-one = ap (λ (n : ℕ). n % 256) above-one ∙ digits-mod (b + c * 256 + d * 65536) ha
+
+  digit-two : x / 256 % 256 ≡ b
+  digit-two =
+      let next : b + c * 256 + d * 65536 ≡ (c + d * 256) * 256 + b = omega arith in
+      ap (λ (n : ℕ). n % 256) (ap (λ (n : ℕ). n / 256) above-one ∙ digits-div (b + c * 256 + d * 65536) ha ∙ next) ∙ digits-mod (c + d * 256) hb
+
+  digit-three : x / 65536 % 256 ≡ c
+  digit-three =
+      let small : b * 256 + a < 65536 = omega arith in
+      let next : c + d * 256 ≡ d * 256 + c = omega arith in
+      ap (λ (n : ℕ). n % 256) (ap (λ (n : ℕ). n / 65536) above-two ∙ digits-div (c + d * 256) small ∙ next) ∙ digits-mod d hc
+
+  digit-four : x / 16777216 ≡ d
+  digit-four =
+      let small : c * 65536 + b * 256 + a < 16777216 = omega arith in
+      ap (λ (n : ℕ). n / 16777216) above-three ∙ digits-div d small
+
+weights : (a b c d : ℕ) → a * 16777216 + b * 65536 + c * 256 + d ≡ ((a * 256 + b) * 256 + c) * 256 + d
+weights a b c d = omega arith
+
+-- and turned round
+pub turned-four : (a b c d x r : ℕ) → a < 256 → b < 256 → c < 256 → x ≡ a + b * 256 + c * 65536 + d * 16777216
+    → r ≡ x % 256 * 16777216 + x / 256 % 256 * 65536 + x / 65536 % 256 * 256 + x / 16777216
+    → r ≡ ((a * 256 + b) * 256 + c) * 256 + d
+turned-four a b c d x r ha hb hc e q =
+    q ∙ rw (digit-one a b c d x ha hb hc e, digit-two a b c d x ha hb hc e, digit-three a b c d x ha hb hc e, digit-four a b c d x ha hb hc e) (weights a b c d)
+
+-- what `number` gives of four and of eight bytes
+pub number-four : (bs : List ℕ) (x : ℕ) → length bs ≡ 4 → x ≡ ((getD bs 0 0 * 256 + getD bs 1 0) * 256 + getD bs 2 0) * 256 + getD bs 3 0 → x ≡ bigEndian bs
+unfolding behind
+number-four (a ∷ b ∷ c ∷ d ∷ []) x q p = omega (arith, p)
+number-four [] x q p = absurd (omega arith)
+number-four (a ∷ []) x q p = absurd (omega arith)
+number-four (a ∷ b ∷ []) x q p = absurd (omega arith)
+number-four (a ∷ b ∷ c ∷ []) x q p = absurd (omega arith)
+number-four (a ∷ b ∷ c ∷ d ∷ e ∷ l) x q p = absurd (omega arith)
+
+pub number-eight : (bs : List ℕ) (x y : ℕ) → length bs ≡ 8 → x ≡ ((getD bs 0 0 * 256 + getD bs 1 0) * 256 + getD bs 2 0) * 256 + getD bs 3 0 → y ≡ ((getD bs 4 0 * 256 + getD bs 5 0) * 256 + getD bs 6 0) * 256 + getD bs 7 0 → x * 4294967296 + y ≡ bigEndian bs
+unfolding behind
+number-eight (a ∷ b ∷ c ∷ d ∷ e ∷ f ∷ g ∷ h ∷ []) x y q p r = omega (arith, p, r)
+number-eight [] x y q p r = absurd (omega arith)
+number-eight (a ∷ []) x y q p r = absurd (omega arith)
+number-eight (a ∷ b ∷ []) x y q p r = absurd (omega arith)
+number-eight (a ∷ b ∷ c ∷ []) x y q p r = absurd (omega arith)
+number-eight (a ∷ b ∷ c ∷ d ∷ []) x y q p r = absurd (omega arith)
+number-eight (a ∷ b ∷ c ∷ d ∷ e ∷ []) x y q p r = absurd (omega arith)
+number-eight (a ∷ b ∷ c ∷ d ∷ e ∷ f ∷ []) x y q p r = absurd (omega arith)
+number-eight (a ∷ b ∷ c ∷ d ∷ e ∷ f ∷ g ∷ []) x y q p r = absurd (omega arith)
+number-eight (a ∷ b ∷ c ∷ d ∷ e ∷ f ∷ g ∷ h ∷ i ∷ l) x y q p r = absurd (omega arith)
+
+-- and that it is a number of so many bytes
+pub number-told : (bs : List ℕ) (x n : ℕ) → length bs ≡ n → n ≤ 8 → ((i : ℕ) → getD bs i 0 < 256) → x ≡ bigEndian bs
+    → (x ≡ pick (leb (length bs) 8) (bigEndian bs) 0) × (x < 256 ^ length bs)
+number-told bs x n e h each q =
+    (rw (le-leb (length bs) 8 (omega arith)) q, rw q (bigEndian-less bs (bytes-each bs each)))
+
 -- what `number` gives of a field of at most eight bytes
 pub number-field : (s : List ℕ) (at w : ℕ) → w ≤ 8 → pick (leb (length (field s at w)) 8) (bigEndian (field s at w)) 0 ≡ bigEndian (field s at w)
 number-field s at w h = rw (le-leb (length (field s at w)) 8 (omega (arith, length-take w (drop at s))))

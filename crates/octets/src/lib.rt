@@ -2,8 +2,8 @@
 ghost use mathlib.Core.Path.{_≡_};
 ghost use mathlib.Core.List.{_∷_, []};
 ghost use mathlib.Core.Bool.{true, _&&_, _||_};
-ghost use Prim.Native.Nat.{_≤_, _<_, _^_};
-ghost use lib.ListN.{length};
+ghost use Prim.Native.Nat.{_+_, _*_, _/_, _%_, _≤_, _<_, _^_};
+ghost use lib.ListN.{length, getD};
 ghost use lib.Dec.{leb};
 ghost use Rattle.octets.specs.Octets.{pick, bit, under, flagByte, bigEndian, bytesOf, isNumber, ipv4Of, ipv6Of, u8Of, u16Of, u32Of, presence, ipv4Meaning, ipv6Meaning, bytesIf, numberIf, put};
 
@@ -84,8 +84,37 @@ pub fn flag_byte(
     (low + high) as u8
 }
 
-// The number whose bytes these are, 0 where they are more than eight.
-pub fn number(bs: &[u8]) -> u64
+// The number of four bytes, least significant first: the compiler makes one load of it.
+fn joined(b0: u8, b1: u8, b2: u8, b3: u8) -> u32
+    ensures { λ r. ⌜ r ≡ b0 + b1 * 256 + b2 * 65536 + b3 * 16777216 ⌝ }
+{
+    b0 as u32 + b1 as u32 * 256 + b2 as u32 * 65536 + b3 as u32 * 16777216
+}
+
+fn low(bs: &[u8], at: usize) -> u32
+    requires { ⌜ at + 4 ≤ length (now bs) ⌝ }
+    ensures { λ r. ⌜ r ≡ getD (now (bs .entry)) at 0 + getD (now (bs .entry)) (at + 1) 0 * 256 + getD (now (bs .entry)) (at + 2) 0 * 65536 + getD (now (bs .entry)) (at + 3) 0 * 16777216 ⌝ }
+{
+    joined(bs[at], bs[at + 1], bs[at + 2], bs[at + 3])
+}
+
+// Its bytes the other way round: the compiler makes one byte swap of it.
+fn turned(x: u32) -> u32
+    ensures { λ r. ⌜ r ≡ x % 256 * 16777216 + x / 256 % 256 * 65536 + x / 65536 % 256 * 256 + x / 16777216 ⌝ }
+{
+    x % 256 * 16777216 + x / 256 % 256 * 65536 + x / 65536 % 256 * 256 + x / 16777216
+}
+
+// The number of four bytes from a place on.
+fn four(bs: &[u8], at: usize) -> u32
+    requires { ⌜ at + 4 ≤ length (now bs) ⌝ }
+    ensures { λ r. ⌜ r ≡ ((getD (now (bs .entry)) at 0 * 256 + getD (now (bs .entry)) (at + 1) 0) * 256 + getD (now (bs .entry)) (at + 2) 0) * 256 + getD (now (bs .entry)) (at + 3) 0 ⌝ }
+{
+    turned(low(bs, at))
+}
+
+// The number of any bytes, one after the other.
+fn summed(bs: &[u8]) -> u64
     ensures { λ r. ⌜ r ≡ pick (leb (length (now (bs .entry))) 8) (bigEndian (now (bs .entry))) 0 ⌝ }
     ensures { λ r. ⌜ r < 256 ^ length (now (bs .entry)) ⌝ }
 {
@@ -99,6 +128,20 @@ pub fn number(bs: &[u8]) -> u64
         i += 1;
     }
     x
+}
+
+// The number whose bytes these are, 0 where they are more than eight.
+pub fn number(bs: &[u8]) -> u64
+    ensures { λ r. ⌜ r ≡ pick (leb (length (now (bs .entry))) 8) (bigEndian (now (bs .entry))) 0 ⌝ }
+    ensures { λ r. ⌜ r < 256 ^ length (now (bs .entry)) ⌝ }
+{
+    if bs.len() == 8 {
+        return four(bs, 0) as u64 * 4294967296 + four(bs, 4) as u64;
+    }
+    if bs.len() == 4 {
+        return four(bs, 0) as u64;
+    }
+    summed(bs)
 }
 
 impl MaybeIpv4 {

@@ -1,70 +1,67 @@
--- `octets::number` meets its contract. The invariant: the bytes passed are in x, and those to come stand behind it.
-use Prim.Native.Nat.{_≤_, _<_, _-_, _^_}
-use mathlib.Core.Path.{_≡_, refl, sym, _∙_}
+-- `octets::number` meets its contract: eight and four bytes by their halves, others one after the other.
 use native.Mathlib.Omega.{arith}
-use native.Mathlib.Numerals.{add-one}
-use native.Mathlib.Nat.{pow-suc, one-le-pow}
-use lib.ListN.{length, drop}
-use lib.Arith.{digits-lt}
-use lib.Dec.{lit<}
-use borrow.Author.Tests.{le-leb, lt-leb}
-use Rattle.octets.specs.Octets.{behind}
-use Rattle.octets.proofs.Laws.{behind-step, behind-end, room}
+use Rattle.octets.proofs.Laws.{number-four, number-eight, number-told}
+use borrow.Author.Needs.{needs}
 use Rattle.octets.proofs.number.Statement.{statement}
 use Rattle.octets.proofs.number.Tie as tie
 
-abbrev Inv-loop : tie.InvT-loop
-Inv-loop bs x₀ i₀ x i = (i ≤ length bs) × (x < 256 ^ i) × (behind x (drop i bs) ≡ behind 0 bs)
+four-requires : tie.Need-four-requires
+four-requires c κs = search needs
 
-abbrev μ-loop : tie.MeasureT-loop
-μ-loop bs x₀ i₀ x i = length bs - i
+cast-result : tie.Need-cast-result
+cast-result c = search needs
 
-returns : tie.Need-returns Inv-loop μ-loop
-returns c = (rw (lt-leb _ _ (c .if1 .taken)), one-le-pow (length (c .before .args .bs .now)) 256 (lit< tt))
+mul-result : tie.Need-mul-result
+mul-result c = search needs
 
-loop-holds : tie.Need-loop-holds Inv-loop μ-loop
-loop-holds c = (omega arith, omega arith, refl)
+four-requires-2 : tie.Need-four-requires-2
+four-requires-2 c κs = search needs
 
-mul-x : tie.Need-mul-x Inv-loop μ-loop
-mul-x c = record { fits = omega (arith, room _ _ 0 (omega arith) (c .before .loop .inv .1) (omega arith)) }
+cast-result-2 : tie.Need-cast-result-2
+cast-result-2 c = search needs
 
-shared-slice-read-x : tie.Need-shared-slice-read-x Inv-loop μ-loop
-shared-slice-read-x c = omega arith
+add-result : tie.Need-add-result
+add-result c = search needs
 
-cast-x : tie.Need-cast-x Inv-loop μ-loop
-cast-x c = omega (arith, c .shared-slice-known .given (c .before .before .loop .i))
+returns : tie.Need-returns
+returns c =
+    let t = c .before .before in
+    let k = t .before in
+    let bs = k .before .args .bs .now in
+    number-told bs _ 8 (t .if1 .taken) (omega arith) (λ i. k .shared-slice-known .given i .fits) (number-eight bs _ _ (t .if1 .taken) (c .before .four .ensures) (c .four2 .ensures))
 
-add-x : tie.Need-add-x Inv-loop μ-loop
-add-x c = record { fits = room _ _ _ (omega arith) (c .before .before .loop .inv .1) (c .shared-slice-known .given (c .before .before .loop .i) .fits) }
+four-requires-3 : tie.Need-four-requires-3
+four-requires-3 c κs = search needs
 
-add-i : tie.Need-add-i Inv-loop μ-loop
-add-i c = omega arith
+cast-result-3 : tie.Need-cast-result-3
+cast-result-3 c = search needs
 
-loop-less : tie.Need-loop-less Inv-loop μ-loop
-loop-less c = omega arith
-
-loop-again : tie.Need-loop-again Inv-loop μ-loop
-loop-again c = (omega arith, rw (add-one, pow-suc) (digits-lt (c .before .before .loop .inv .1) (c .shared-slice-known .given (c .before .before .loop .i) .fits)), behind-step (c .before .before .loop .x) (c .before .before .loop .i) (c .before .before .before .before .args .bs .now) (omega arith) ∙ c .before .before .loop .inv .2)
-
-returns-2 : tie.Need-returns-2 Inv-loop μ-loop
+returns-2 : tie.Need-returns-2
 returns-2 c =
-    let l = c .before in
-    let e : l .loop .i ≡ length (l .before .before .args .bs .now) = omega arith in
-    (rw (le-leb _ _ (c .before .before .if1 .left)) (sym (behind-end _ (c .before .loop .i) _ (omega arith)) ∙ c .before .loop .inv .2), rw e at (l .loop .inv .1))
+    let t = c .before in
+    let k = t .before .before in
+    let bs = k .before .args .bs .now in
+    number-told bs _ 4 (t .if2 .taken) (omega arith) (λ i. k .shared-slice-known .given i .fits) (number-four bs _ (t .if2 .taken) (c .four3 .ensures))
+
+summed-requires : tie.Need-summed-requires
+summed-requires c κs = search needs
+
+returns-3 : tie.Need-returns-3
+returns-3 c = (c .summed .ensures .0, c .summed .ensures .1)
 
 pub number-spec : {M : Type 1} → statement M
 number-spec =
     tie.close
     (tie.spec
-    Inv-loop
-    μ-loop
+    four-requires
+    cast-result
+    mul-result
+    four-requires-2
+    cast-result-2
+    add-result
     returns
-    loop-holds
-    mul-x
-    shared-slice-read-x
-    cast-x
-    add-x
-    add-i
-    loop-less
-    loop-again
-    returns-2)
+    four-requires-3
+    cast-result-3
+    returns-2
+    summed-requires
+    returns-3)
