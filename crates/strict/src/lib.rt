@@ -58,7 +58,7 @@ fn complete(record: PfdContents) -> bool
 pub fn ue_ip_address(payload: &[u8]) -> bool
     ensures { λ r. ⌜ r ≡ ueIpAddress (now (payload .entry)) ⌝ }
 {
-    let address_answer = UeIpAddress::unmarshal(payload).answer;
+    let address_answer = UeIpAddress::answer(payload);
     judged(address_answer, true)
 }
 

@@ -93,19 +93,74 @@ impl UeIpAddress {
         chosen
     }
 
-    pub fn unmarshal(payload: &[u8]) -> UeIpAddressRead
-        ensures { λ r. ⌜ r ≡ read (now (payload .entry)) ⌝ }
+    // What reading a payload answers, without the record.
+    pub fn answer(payload: &[u8]) -> Answer
+        ensures { λ r. ⌜ r ≡ read (now (payload .entry)) .answer ⌝ }
     {
         let n = payload.len();
         if 65535 < n {
-            return refused(Answer::TooLong { length: n });
+            return Answer::TooLong { length: n };
         }
         if n < UeIpAddress::MIN_LEN {
-            return refused(Answer::Short {
+            return Answer::Short {
                 field: 0,
                 expected: UeIpAddress::MIN_LEN,
                 actual: n,
-            });
+            };
+        }
+        let flags = payload[0];
+        let v6 = octets::bit(flags, 0);
+        let v4 = octets::bit(flags, 1);
+        let ipv6d = octets::bit(flags, 3);
+        let chv4 = octets::bit(flags, 4);
+        let chv6 = octets::bit(flags, 5);
+        let ip6pl = octets::bit(flags, 6);
+        let rule = broken_rule(v4, v6, ipv6d, chv4, chv6, ip6pl);
+        if rule != 0 {
+            return Answer::Flags { byte: flags, rule };
+        }
+        let end4 = UeIpAddress::MIN_LEN + octets::under(v4, 4);
+        if n < end4 {
+            return Answer::Short {
+                field: 1,
+                expected: end4,
+                actual: n,
+            };
+        }
+        let end6 = end4 + octets::under(v6, 16);
+        if n < end6 {
+            return Answer::Short {
+                field: 2,
+                expected: end6,
+                actual: n,
+            };
+        }
+        let end_bits = end6 + octets::under(ipv6d, 1);
+        if n < end_bits {
+            return Answer::Short {
+                field: 3,
+                expected: end_bits,
+                actual: n,
+            };
+        }
+        let end = end_bits + octets::under(ip6pl, 1);
+        if n < end {
+            return Answer::Short {
+                field: 4,
+                expected: end,
+                actual: n,
+            };
+        }
+        Answer::Done
+    }
+
+    // The address that an image stores first is read last, so that the two ways of a field that may be absent meet once.
+    pub fn unmarshal(payload: &[u8]) -> UeIpAddressRead
+        ensures { λ r. ⌜ r ≡ read (now (payload .entry)) ⌝ }
+    {
+        let answer = UeIpAddress::answer(payload);
+        if answer.number() != 0 {
+            return refused(answer);
         }
         let flags = payload[0];
         let v6 = octets::bit(flags, 0);
@@ -115,53 +170,14 @@ impl UeIpAddress {
         let choose_ipv4 = octets::bit(flags, 4);
         let choose_ipv6 = octets::bit(flags, 5);
         let ipv6_prefix_length_present = octets::bit(flags, 6);
-        let rule = broken_rule(
-            v4,
-            v6,
-            ipv6_prefix_delegation,
-            choose_ipv4,
-            choose_ipv6,
-            ipv6_prefix_length_present,
-        );
-        if rule != 0 {
-            return refused(Answer::Flags { byte: flags, rule });
-        }
         let end4 = UeIpAddress::MIN_LEN + octets::under(v4, 4);
-        if n < end4 {
-            return refused(Answer::Short {
-                field: 1,
-                expected: end4,
-                actual: n,
-            });
-        }
         let end6 = end4 + octets::under(v6, 16);
-        if n < end6 {
-            return refused(Answer::Short {
-                field: 2,
-                expected: end6,
-                actual: n,
-            });
-        }
         let end_bits = end6 + octets::under(ipv6_prefix_delegation, 1);
-        if n < end_bits {
-            return refused(Answer::Short {
-                field: 3,
-                expected: end_bits,
-                actual: n,
-            });
-        }
         let end = end_bits + octets::under(ipv6_prefix_length_present, 1);
-        if n < end {
-            return refused(Answer::Short {
-                field: 4,
-                expected: end,
-                actual: n,
-            });
-        }
-        let ipv4_address = MaybeIpv4::of(&payload[1..end4]);
-        let ipv6_address = MaybeIpv6::of(&payload[end4..end6]);
         let ipv6_prefix_delegation_bits = MaybeU8::of(&payload[end6..end_bits]);
         let ipv6_prefix_length = MaybeU8::of(&payload[end_bits..end]);
+        let ipv4_address = MaybeIpv4::of(&payload[1..end4]);
+        let ipv6_address = MaybeIpv6::of(&payload[end4..end6]);
         UeIpAddressRead {
             answer: Answer::Done,
             used: end,
