@@ -81,15 +81,15 @@ impl Fseid {
         let v6 = octets::bit(flags, 0);
         let v4 = octets::bit(flags, 1);
         let end4 = Fseid::MIN_LEN + octets::under(v4, 4);
-        if n < end4 {
-            return refused(Answer::Short {
-                field: 1,
-                expected: end4,
-                actual: n,
-            });
-        }
         let end6 = end4 + octets::under(v6, 16);
         if n < end6 {
+            if n < end4 {
+                return refused(Answer::Short {
+                    field: 1,
+                    expected: end4,
+                    actual: n,
+                });
+            }
             return refused(Answer::Short {
                 field: 2,
                 expected: end6,

@@ -75,17 +75,17 @@ under-requires c κs = search needs
 add-end4 : tie.Need-add-end4
 add-end4 c = search needs
 
-refused-requires-3 : tie.Need-refused-requires-3
-refused-requires-3 c κs = search needs
-
-returns-3 : tie.Need-returns-3
-returns-3 c = search stop1
-
 under-requires-2 : tie.Need-under-requires-2
 under-requires-2 c κs = search needs
 
 add-end6 : tie.Need-add-end6
 add-end6 c = search needs
+
+refused-requires-3 : tie.Need-refused-requires-3
+refused-requires-3 c κs = search needs
+
+returns-3 : tie.Need-returns-3
+returns-3 c = search stop1
 
 refused-requires-4 : tie.Need-refused-requires-4
 refused-requires-4 c κs = search needs
@@ -145,10 +145,10 @@ unmarshal-spec =
     bit-requires-2
     under-requires
     add-end4
-    refused-requires-3
-    returns-3
     under-requires-2
     add-end6
+    refused-requires-3
+    returns-3
     refused-requires-4
     returns-4
     sub-number
