@@ -42,20 +42,26 @@ fn refused(answer: Answer) -> UeIpAddressRead
     }
 }
 
-// The first rule that flags break, 0 for none.
+// The first rule that flags break, 0 for none. Most payloads have none of the flags that a rule speaks of.
 fn broken_rule(v4: bool, v6: bool, ipv6d: bool, chv4: bool, chv6: bool, ip6pl: bool) -> u8
     ensures { λ r. ⌜ r ≡ broken v4 v6 ipv6d chv4 chv6 ip6pl ⌝ }
 {
+    if !octets::either(octets::either(ipv6d, ip6pl), octets::either(chv4, chv6)) {
+        return 0;
+    }
     if octets::either(octets::both(v4, chv4), octets::both(v6, chv6)) {
         return 1;
+    }
+    if !octets::either(ipv6d, ip6pl) {
+        return 0;
     }
     if octets::both(ipv6d, ip6pl) {
         return 2;
     }
-    if octets::both(octets::either(ipv6d, ip6pl), !octets::either(v6, chv6)) {
-        return 3;
+    if octets::either(v6, chv6) {
+        return 0;
     }
-    0
+    3
 }
 
 impl UeIpAddress {
@@ -120,31 +126,31 @@ impl UeIpAddress {
             return Answer::Flags { byte: flags, rule };
         }
         let end4 = UeIpAddress::MIN_LEN + octets::under(v4, 4);
-        if n < end4 {
-            return Answer::Short {
-                field: 1,
-                expected: end4,
-                actual: n,
-            };
-        }
         let end6 = end4 + octets::under(v6, 16);
-        if n < end6 {
-            return Answer::Short {
-                field: 2,
-                expected: end6,
-                actual: n,
-            };
-        }
         let end_bits = end6 + octets::under(ipv6d, 1);
-        if n < end_bits {
-            return Answer::Short {
-                field: 3,
-                expected: end_bits,
-                actual: n,
-            };
-        }
         let end = end_bits + octets::under(ip6pl, 1);
         if n < end {
+            if n < end4 {
+                return Answer::Short {
+                    field: 1,
+                    expected: end4,
+                    actual: n,
+                };
+            }
+            if n < end6 {
+                return Answer::Short {
+                    field: 2,
+                    expected: end6,
+                    actual: n,
+                };
+            }
+            if n < end_bits {
+                return Answer::Short {
+                    field: 3,
+                    expected: end_bits,
+                    actual: n,
+                };
+            }
             return Answer::Short {
                 field: 4,
                 expected: end,

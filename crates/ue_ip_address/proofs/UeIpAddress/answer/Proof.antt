@@ -132,24 +132,11 @@ under-requires c κs = search needs
 add-end4 : tie.Need-add-end4
 add-end4 c = search needs
 
-returns-4 : tie.Need-returns-4
-returns-4 c =
-    let x1 = c .before in
-    let free = x1 .before in
-    stop1 _ _ _ _ _ _ _ _ (flagged (free .before)) (free .if3 .left) _ (x1 .under .ensures .0) _ (c .if4 .taken) refl
-
 under-requires-2 : tie.Need-under-requires-2
 under-requires-2 c κs = search needs
 
 add-end6 : tie.Need-add-end6
 add-end6 c = search needs
-
-returns-5 : tie.Need-returns-5
-returns-5 c =
-    let x2 = c .before in
-    let x1 = x2 .before .before in
-    let free = x1 .before in
-    stop2 _ _ _ _ _ _ _ _ (flagged (free .before)) (free .if3 .left) _ (x1 .under .ensures .0) _ (x2 .under2 .ensures .0) _ (x2 .before .if4 .left) (c .if5 .taken) refl
 
 under-requires-3 : tie.Need-under-requires-3
 under-requires-3 c κs = search needs
@@ -157,37 +144,57 @@ under-requires-3 c κs = search needs
 add-end-bits : tie.Need-add-end-bits
 add-end-bits c = search needs
 
-returns-6 : tie.Need-returns-6
-returns-6 c =
-    let x3 = c .before in
-    let x2 = x3 .before .before in
-    let x1 = x2 .before .before in
-    let free = x1 .before in
-    stop3 _ _ _ _ _ _ _ _ (flagged (free .before)) (free .if3 .left) _ (x1 .under .ensures .0) _ (x2 .under2 .ensures .0) _ (x3 .under3 .ensures .0) _ (x3 .before .if5 .left) (c .if6 .taken) refl
-
 under-requires-4 : tie.Need-under-requires-4
 under-requires-4 c κs = search needs
 
 add-end : tie.Need-add-end
 add-end c = search needs
 
+returns-4 : tie.Need-returns-4
+returns-4 c =
+    let x4 = c .before .before in
+    let x3 = x4 .before in
+    let x2 = x3 .before in
+    let x1 = x2 .before in
+    let free = x1 .before in
+    stop1 _ _ _ _ _ _ _ _ (flagged (free .before)) (free .if3 .left) _ (x1 .under .ensures .0) _ (c .if5 .taken) refl
+
+returns-5 : tie.Need-returns-5
+returns-5 c =
+    let x4 = c .before .before .before in
+    let x3 = x4 .before in
+    let x2 = x3 .before in
+    let x1 = x2 .before in
+    let free = x1 .before in
+    stop2 _ _ _ _ _ _ _ _ (flagged (free .before)) (free .if3 .left) _ (x1 .under .ensures .0) _ (x2 .under2 .ensures .0) _ (c .before .if5 .left) (c .if6 .taken) refl
+
+returns-6 : tie.Need-returns-6
+returns-6 c =
+    let x4 = c .before .before .before .before in
+    let x3 = x4 .before in
+    let x2 = x3 .before in
+    let x1 = x2 .before in
+    let free = x1 .before in
+    stop3 _ _ _ _ _ _ _ _ (flagged (free .before)) (free .if3 .left) _ (x1 .under .ensures .0) _ (x2 .under2 .ensures .0) _ (x3 .under3 .ensures .0) _ (c .before .if6 .left) (c .if7 .taken) refl
+
 returns-7 : tie.Need-returns-7
 returns-7 c =
-    let x4 = c .before in
-    let x3 = x4 .before .before in
-    let x2 = x3 .before .before in
-    let x1 = x2 .before .before in
+    let cut = c .before .before .before in
+    let x4 = cut .before in
+    let x3 = x4 .before in
+    let x2 = x3 .before in
+    let x1 = x2 .before in
     let free = x1 .before in
-    stop4 _ _ _ _ _ _ _ _ (flagged (free .before)) (free .if3 .left) _ (x1 .under .ensures .0) _ (x2 .under2 .ensures .0) _ (x3 .under3 .ensures .0) _ (x4 .under4 .ensures .0) _ (x4 .before .if6 .left) (c .if7 .taken) refl
+    stop4 _ _ _ _ _ _ _ _ (flagged (free .before)) (free .if3 .left) _ (x1 .under .ensures .0) _ (x2 .under2 .ensures .0) _ (x3 .under3 .ensures .0) _ (x4 .under4 .ensures .0) _ (c .if7 .left) (cut .if4 .taken) refl
 
 returns-8 : tie.Need-returns-8
 returns-8 c =
     let x4 = c .before in
-    let x3 = x4 .before .before in
-    let x2 = x3 .before .before in
-    let x1 = x2 .before .before in
+    let x3 = x4 .before in
+    let x2 = x3 .before in
+    let x1 = x2 .before in
     let free = x1 .before in
-    done _ _ _ _ _ _ _ _ (flagged (free .before)) (free .if3 .left) _ (x1 .under .ensures .0) _ (x2 .under2 .ensures .0) _ (x3 .under3 .ensures .0) _ (x4 .under4 .ensures .0) (c .if7 .left)
+    done _ _ _ _ _ _ _ _ (flagged (free .before)) (free .if3 .left) _ (x1 .under .ensures .0) _ (x2 .under2 .ensures .0) _ (x3 .under3 .ensures .0) _ (x4 .under4 .ensures .0) (c .if4 .left)
 
 pub answer-spec : {M : Type 1} → statement M
 answer-spec =
@@ -206,14 +213,14 @@ answer-spec =
     returns-3
     under-requires
     add-end4
-    returns-4
     under-requires-2
     add-end6
-    returns-5
     under-requires-3
     add-end-bits
-    returns-6
     under-requires-4
     add-end
+    returns-4
+    returns-5
+    returns-6
     returns-7
     returns-8)
