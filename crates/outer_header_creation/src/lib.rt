@@ -186,6 +186,35 @@ fn cut(payload: &[u8], ends: Ends) -> Answer
     short(9, end_stag, n)
 }
 
+// The first byte, 0 where there is none.
+fn first(payload: &[u8]) -> u8
+    ensures { λ r. ⌜ r ≡ getD (now (payload .entry)) 0 0 ⌝ }
+{
+    if payload.len() == 0 {
+        return 0;
+    }
+    payload[0]
+}
+
+// The answer, where the ends of the fields are known: they are found once for the answer and the record.
+fn verdict(payload: &[u8], ends: Ends) -> Answer
+    requires { ⌜ ends ≡ endsOf (asked (flagsOf (getD (now payload) 0 0))) ⌝ }
+    ensures { λ r. ⌜ r ≡ read (now (payload .entry)) .answer ⌝ }
+{
+    let n = payload.len();
+    if 65535 < n {
+        return Answer::TooLong { length: n };
+    }
+    if n < OuterHeaderCreation::MIN_LEN {
+        return short(0, OuterHeaderCreation::MIN_LEN, n);
+    }
+    let end_stag = ends.stag;
+    if n < end_stag {
+        return cut(payload, ends);
+    }
+    Answer::Done
+}
+
 impl OuterHeaderCreationFlags {
     pub const EMPTY: OuterHeaderCreationFlags = OuterHeaderCreationFlags {
         gtpu_udp_ipv4: false,
@@ -391,31 +420,20 @@ impl OuterHeaderCreation {
     pub fn answer(payload: &[u8]) -> Answer
         ensures { λ r. ⌜ r ≡ read (now (payload .entry)) .answer ⌝ }
     {
-        let n = payload.len();
-        if 65535 < n {
-            return Answer::TooLong { length: n };
-        }
-        if n < OuterHeaderCreation::MIN_LEN {
-            return short(0, OuterHeaderCreation::MIN_LEN, n);
-        }
-        let description = OuterHeaderCreationFlags::of(payload[0]);
+        let description = OuterHeaderCreationFlags::of(first(payload));
         let ends = ends_of(description.asked());
-        let end_stag = ends.stag;
-        if n < end_stag {
-            return cut(payload, ends);
-        }
-        Answer::Done
+        verdict(payload, ends)
     }
 
     pub fn unmarshal(payload: &[u8]) -> OuterHeaderCreationRead
         ensures { λ r. ⌜ r ≡ read (now (payload .entry)) ⌝ }
     {
-        let answer = OuterHeaderCreation::answer(payload);
+        let description = OuterHeaderCreationFlags::of(first(payload));
+        let ends = ends_of(description.asked());
+        let answer = verdict(payload, ends);
         if answer.number() != 0 {
             return refused(answer);
         }
-        let description = OuterHeaderCreationFlags::of(payload[0]);
-        let ends = ends_of(description.asked());
         let end_stag = ends.stag;
         OuterHeaderCreationRead {
             answer: Answer::Done,

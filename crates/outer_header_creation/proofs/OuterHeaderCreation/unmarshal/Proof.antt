@@ -37,31 +37,48 @@ other s a r e h q = go (outcome layout s) e
     go (accepts n) e = absurd (h (ap numberOf e))
     go (refuses b) e = q ∙ ap refused e
 
-module _ (s : List ℕ) (d : Flags) (e : Ends) (flags : d ≡ flagsOf (getD s 0 0)) (is : e ≡ endsOf (asked d)) (w : Whole layout s (end layout s)) where
+module _ (s : List ℕ) (d : Flags) (e : Ends) (flags : d ≡ flagsOf (getD s 0 0)) (is : e ≡ endsOf (asked d)) where
   here : e ≡ ends s
   here = is ∙ ap (λ (f : Flags). endsOf (asked f)) flags
 
-  within : e .stag ≤ length s
+  within : Whole layout s (end layout s) → e .stag ≤ length s
   unfolding endsOf
-  within = let f : e .stag ≡ end layout s = rw here (omega arith) in omega (arith, w .within)
+  within w = let f : e .stag ≡ end layout s = rw here (omega arith) in omega (arith, w .within)
 
-  done : (x : OuterHeaderCreation) → x ≡ recordWith d s → record { answer = Done; used = e .stag; «record» = x } ≡ read s
+  done : Whole layout s (end layout s) → (x : OuterHeaderCreation) → x ≡ recordWith d s → record { answer = Done; used = e .stag; «record» = x } ≡ read s
   unfolding read found endsOf
-  done x q = all-there found layout s _ (w .fits) refl (e .stag) (rw here (omega arith)) within (rw (q, flags))
+  done w x q = all-there found layout s _ (w .fits) refl (e .stag) (rw here (omega arith)) (within w) (rw (q, flags))
 
--- what is known behind the test of the answer
-is-done : (c : tie.Else1) → Whole layout (c .before .before .before .before .args .payload .now) (end layout (c .before .before .before .before .args .payload .now))
-is-done c =
-    let number = c .before in
-    let answered = number .before in
-    whole _ (sym (answered .answer .ensures) ∙ number-is-done _ (sym (number .number .ensures) ∙ c .if1 .left))
+-- the flags and the ends, where they are found
+flags-are : (c : tie.After-ends-of) → c .before .before .of .result ≡ flagsOf (getD (c .before .before .before .before .before .args .payload .now) 0 0)
+flags-are c = let flags-of = c .before .before in flags-of .of .ensures ∙ ap flagsOf (flags-of .before .first .ensures)
 
--- and where the ends are
 ends-are : (c : tie.After-ends-of) → c .ends-of .result ≡ endsOf (asked (c .before .before .of .result))
 ends-are c = c .ends-of .ensures .0 ∙ ap endsOf (c .before .asked .ensures)
 
-answer-requires : tie.Need-answer-requires
-answer-requires c κs = search needs
+-- what is known behind the test of the answer
+is-done : (c : tie.Else1) →
+    let s = c .before .before .before .before .before .before .before .before .args .payload .now in
+    Whole layout s (end layout s)
+is-done c =
+    let number = c .before in
+    let answered = number .before in
+    whole _ (sym (answered .verdict .ensures) ∙ number-is-done _ (sym (number .number .ensures) ∙ c .if1 .left))
+
+first-requires : tie.Need-first-requires
+first-requires c κs = search needs
+
+of-requires : tie.Need-of-requires
+of-requires c κs = search needs
+
+asked-requires : tie.Need-asked-requires
+asked-requires c κs = search needs
+
+ends-of-requires : tie.Need-ends-of-requires
+ends-of-requires c κs = search needs
+
+verdict-requires : tie.Need-verdict-requires
+verdict-requires c κs = here (c .before .before .before .before .before .args .payload .now) _ _ (flags-are c) (ends-are c)
 
 number-requires : tie.Need-number-requires
 number-requires c κs = search needs
@@ -73,42 +90,29 @@ returns : tie.Need-returns
 returns c =
     let test = c .before in
     let number = test .before in
-    other _ _ _ (number .before .answer .ensures) (λ e. test .if1 .taken (number .number .ensures ∙ e)) (c .refused .ensures)
-
-shared-slice-read-of : tie.Need-shared-slice-read-of
-shared-slice-read-of c = let w = is-done (c .before) in omega (arith, w .within)
-
-of-requires : tie.Need-of-requires
-of-requires c κs = search needs
-
-asked-requires : tie.Need-asked-requires
-asked-requires c κs = search needs
-
-ends-of-requires : tie.Need-ends-of-requires
-ends-of-requires c κs = search needs
+    other _ _ _ (number .before .verdict .ensures) (λ e. test .if1 .taken (number .number .ensures ∙ e)) (c .refused .ensures)
 
 record-of-requires : tie.Need-record-of-requires
 record-of-requires c κs =
-    let flags-of = c .before .before in
-    (ends-are c, (c .ends-of .ensures .1, within _ _ _ (flags-of .of .ensures) (ends-are c) (is-done (flags-of .before .before))))
+    let e = c .before .before .before in
+    (ends-are e, (e .ends-of .ensures .1, within _ _ _ (flags-are e) (ends-are e) (is-done c)))
 
 returns-2 : tie.Need-returns-2
 returns-2 c =
-    let e = c .before in
-    let flags-of = e .before .before in
-    done _ _ _ (flags-of .of .ensures) (ends-are e) (is-done (flags-of .before .before)) _ (c .record-of .ensures)
+    let e = c .before .before .before .before in
+    done _ _ _ (flags-are e) (ends-are e) (is-done (c .before)) _ (c .record-of .ensures)
 
 pub unmarshal-spec : {M : Type 1} → statement M
 unmarshal-spec =
     tie.close
     (tie.spec
-    answer-requires
-    number-requires
-    refused-requires
-    returns
-    shared-slice-read-of
+    first-requires
     of-requires
     asked-requires
     ends-of-requires
+    verdict-requires
+    number-requires
+    refused-requires
+    returns
     record-of-requires
     returns-2)
