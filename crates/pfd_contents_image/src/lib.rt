@@ -1,9 +1,10 @@
 // PFD Contents in a record image.
 use answer::Answer;
 use pfd_contents::PfdContents;
-use pfd_contents::PfdContentsRead;
+use text_fields::Fault;
 use text_fields::MaybeText;
 use text_fields::TextList;
+use text_fields::Walk;
 ghost use mathlib.Core.Path.{_≡_};
 ghost use Prim.Native.Nat.{_≤_, _+_};
 ghost use lib.ListN.{length};
@@ -11,7 +12,9 @@ ghost use mathlib.Core.List.{_++_};
 ghost use Rattle.answer.specs.Paper.{numberOf};
 ghost use Rattle.octets.specs.Octets.{put};
 ghost use Rattle.image.specs.Image.{head, told, laid, whole, numbered, changed, reported};
-ghost use Rattle.pfd_contents.specs.PfdContents.{read};
+ghost use mathlib.Core.Bool.{_||_};
+ghost use Rattle.pfd_contents.specs.PfdContents.{answerOf, refused, readFields, read};
+ghost use Rattle.pfd_contents.specs.Steps.{finished};
 ghost use Rattle.pfd_contents_image.specs.PfdContentsImage.{textImage, listImage, textsImage, listsImage, recordImage, imageOf, textAt, listAt, recordAt, writes, stores};
 
 // How long an image is.
@@ -85,21 +88,126 @@ fn put_image(out: &mut [u8], answer: Answer, used: usize, record: PfdContents)
     image::put_head(out, answer, used);
 }
 
-// Puts what a read answered, and says its number. A read that is done has its own way, so that it stores the zeros of its head at once.
-fn put_read(out: &mut [u8], read: PfdContentsRead) -> u64
+// Puts a refused read, whose record is empty, and says its number.
+fn put_refused(out: &mut [u8], answer: Answer) -> u64
     requires { ⌜ 194 ≤ length (now out) ⌝ }
-    ensures { λ r. ⌜ r ≡ numberOf (read .answer) ⌝ }
-    ensures { λ r. ⌜ now (out .exit) ≡ put (now (out .entry)) 0 (imageOf read) ⌝ }
+    ensures { λ r. ⌜ r ≡ numberOf answer ⌝ }
+    ensures { λ r. ⌜ now (out .exit) ≡ put (now (out .entry)) 0 (imageOf (refused answer)) ⌝ }
 {
-    let answer = read.answer;
-    let record = read.record;
-    let used = read.used;
-    let Answer::Done = answer else {
-        put_image(out, answer, used, record);
-        return answer.number() as u64;
-    };
-    put_image(out, Answer::Done, used, record);
-    0
+    let empty = [0u8; 154];
+    octets::put_bytes(out, 40, &empty);
+    image::put_head(out, answer, 0);
+    answer.number() as u64
+}
+
+// The answer to a fault.
+fn answer_of(fault: Fault) -> Answer
+    ensures { λ r. ⌜ r ≡ answerOf fault ⌝ }
+{
+    match fault {
+        Fault::Past { end, len } => Answer::Short {
+            field: 10,
+            expected: end,
+            actual: len,
+        },
+        Fault::Garbled { place } => Answer::NotUtf8 { place },
+    }
+}
+
+// Puts what a walk over the fields came to, and says its number.
+fn put_walked(out: &mut [u8], walk: Walk, record: PfdContents) -> u64
+    requires { ⌜ 194 ≤ length (now out) ⌝ }
+    ensures { λ r. ⌜ r ≡ numberOf (finished walk «record» .answer) ⌝ }
+    ensures { λ r. ⌜ now (out .exit) ≡ put (now (out .entry)) 0 (imageOf (finished walk «record»)) ⌝ }
+{
+    match walk {
+        Walk::At(used) => {
+            put_image(out, Answer::Done, used, record);
+            0
+        }
+        Walk::Stopped(fault) => put_refused(out, answer_of(fault)),
+    }
+}
+
+fn either(a: bool, b: bool) -> bool
+    ensures { λ r. ⌜ r ≡ (a || b) ⌝ }
+{
+    a || b
+}
+
+// The eight fields in wire order. The steps are those of `PfdContents::unmarshal`; they stand here once more so that the compiler takes
+// the record from them to the image in registers.
+fn read_fields(payload: &[u8], flags: u8, image: &mut [u8]) -> u64
+    requires { ⌜ 194 ≤ length (now image) ⌝ }
+    ensures { λ r. ⌜ r ≡ numberOf (readFields (now (payload .entry)) flags .answer) ⌝ }
+    ensures { λ r. ⌜ now (image .exit) ≡ put (now (image .entry)) 0 (imageOf (readFields (now (payload .entry)) flags)) ⌝ }
+{
+    let urls_too = octets::bit(flags, 6);
+    let names_too = octets::bit(flags, 7);
+    let flow = MaybeText::read(payload, Walk::At(2), flags, 0);
+    let mut walk = flow.walk;
+    let url = MaybeText::read(payload, walk, flags, 1);
+    walk = url.walk;
+    let domain = MaybeText::read(payload, walk, flags, 2);
+    walk = domain.walk;
+    let custom = MaybeText::read(payload, walk, flags, 3);
+    walk = custom.walk;
+    let protocol = MaybeText::read(payload, walk, flags, 4);
+    walk = protocol.walk;
+    let flows_later = either(urls_too, names_too);
+    let flows = TextList::read(payload, walk, flags, 5, flows_later);
+    walk = flows.walk;
+    let urls = TextList::read(payload, walk, flags, 6, names_too);
+    walk = urls.walk;
+    let names = TextList::read(payload, walk, flags, 7, false);
+    walk = names.walk;
+    let flow_description = flow.text;
+    let url = url.text;
+    let domain_name = domain.text;
+    let custom_pfd_content = custom.text;
+    let domain_name_protocol = protocol.text;
+    let additional_flow_description = flows.list;
+    let additional_url = urls.list;
+    let additional_domain_name_and_protocol = names.list;
+    put_walked(
+        image,
+        walk,
+        PfdContents {
+            flags,
+            flow_description,
+            url,
+            domain_name,
+            custom_pfd_content,
+            domain_name_protocol,
+            additional_flow_description,
+            additional_url,
+            additional_domain_name_and_protocol,
+        },
+    )
+}
+
+// Puts what reading a payload answers, and says its number.
+fn put_read(payload: &[u8], image: &mut [u8]) -> u64
+    requires { ⌜ 194 ≤ length (now image) ⌝ }
+    ensures { λ r. ⌜ r ≡ numberOf (read (now (payload .entry)) .answer) ⌝ }
+    ensures { λ r. ⌜ now (image .exit) ≡ put (now (image .entry)) 0 (imageOf (read (now (payload .entry)))) ⌝ }
+{
+    let n = payload.len();
+    if 65535 < n {
+        return put_refused(image, Answer::TooLong { length: n });
+    }
+    if n < 2 {
+        return put_refused(
+            image,
+            Answer::Short {
+                field: 0,
+                expected: 2,
+                actual: n,
+            },
+        );
+    }
+    let flags = payload[0];
+    read_fields(payload, flags, image)
 }
 
 // The text at a place, and whether it is given. A place of an image is small, so that no sum is too large.
@@ -157,7 +265,7 @@ pub fn read(payload: &[u8], image: &mut [u8]) -> u64
     if image.len() < SIZE {
         return 8;
     }
-    put_read(image, PfdContents::unmarshal(payload))
+    put_read(payload, image)
 }
 
 pub fn write(image: &[u8], texts: &[u8], out: &mut [u8], report: &mut [u8]) -> u64

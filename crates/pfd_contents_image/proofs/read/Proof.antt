@@ -7,9 +7,6 @@ use Rattle.pfd_contents_image.proofs.read.Tie as tie
 returns : tie.Need-returns
 returns c = (told-short 194 _ _ (c .if1 .taken), laid-short 194 _ _ (c .if1 .taken))
 
-unmarshal-requires : tie.Need-unmarshal-requires
-unmarshal-requires c κs = search needs
-
 put-read-requires : tie.Need-put-read-requires
 put-read-requires c κs = search needs
 
@@ -19,10 +16,8 @@ same-length c = search needs
 returns-2 : tie.Need-returns-2
 returns-2 c =
     let p = c .before .before in
-    let u = p .before in
-    let room = u .before .before in
-    let e = u .unmarshal .ensures in
-    (told-long 194 _ _ _ (room .if1 .left) (rw e at (p .put-read .ensures .0)), laid-long 194 _ _ _ (room .if1 .left) (rw e at (p .put-read .ensures .1)))
+    let room = p .before .before in
+    (told-long 194 _ _ _ (room .if1 .left) (p .put-read .ensures .0), laid-long 194 _ _ _ (room .if1 .left) (p .put-read .ensures .1))
 
 pub read-spec : {M : Type 1} → statement M
-read-spec = tie.close (tie.spec returns unmarshal-requires put-read-requires same-length returns-2)
+read-spec = tie.close (tie.spec returns put-read-requires same-length returns-2)
