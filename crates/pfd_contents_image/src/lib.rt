@@ -11,7 +11,7 @@ ghost use lib.ListN.{length};
 ghost use mathlib.Core.List.{_++_};
 ghost use Rattle.answer.specs.Paper.{numberOf};
 ghost use Rattle.octets.specs.Octets.{put};
-ghost use Rattle.image.specs.Image.{head, told, laid, whole, numbered, changed, reported};
+ghost use Rattle.image.specs.Image.{numberAt, head, told, laid, whole, numbered, changed, reported};
 ghost use mathlib.Core.Bool.{_||_};
 ghost use Rattle.pfd_contents.specs.PfdContents.{answerOf, refused, readFields, read};
 ghost use Rattle.pfd_contents.specs.Steps.{finished};
@@ -210,13 +210,21 @@ fn put_read(payload: &[u8], image: &mut [u8]) -> u64
     read_fields(payload, flags, image)
 }
 
-// The text at a place, and whether it is given. A place of an image is small, so that no sum is too large.
+// The number at a place whose eight bytes are there: one load.
+fn number_at(image: &[u8], at: usize) -> u64
+    requires { ⌜ at + 8 ≤ length (now image) ⌝ }
+    ensures { λ r. ⌜ r ≡ numberAt (now (image .entry)) at ⌝ }
+{
+    image::u64_at(&image[at..at + 8], 0)
+}
+
+// The text at a place, and whether it is given.
 fn text_at(image: &[u8], at: usize, given: bool) -> MaybeText
-    requires { ⌜ at ≤ 170 ⌝ }
+    requires { ⌜ at + 16 ≤ length (now image) ⌝ }
     ensures { λ r. ⌜ r ≡ textAt (now (image .entry)) at given ⌝ }
 {
-    let place = image::u64_at(image, at);
-    let len = image::u64_at(image, at + 8);
+    let place = number_at(image, at);
+    let len = number_at(image, at + 8);
     MaybeText {
         given,
         place: place as usize,
@@ -226,12 +234,12 @@ fn text_at(image: &[u8], at: usize, given: bool) -> MaybeText
 
 // The list at a place.
 fn list_at(image: &[u8], at: usize) -> TextList
-    requires { ⌜ at ≤ 170 ⌝ }
+    requires { ⌜ at + 24 ≤ length (now image) ⌝ }
     ensures { λ r. ⌜ r ≡ listAt (now (image .entry)) at ⌝ }
 {
-    let place = image::u64_at(image, at);
-    let len = image::u64_at(image, at + 8);
-    let count = image::u64_at(image, at + 16);
+    let place = number_at(image, at);
+    let len = number_at(image, at + 8);
+    let count = number_at(image, at + 16);
     TextList {
         place: place as usize,
         len: len as usize,
@@ -241,6 +249,7 @@ fn list_at(image: &[u8], at: usize) -> TextList
 
 // The record that stands in an image.
 fn record_at(image: &[u8]) -> PfdContents
+    requires { ⌜ 194 ≤ length (now image) ⌝ }
     ensures { λ r. ⌜ r ≡ recordAt (now (image .entry)) ⌝ }
 {
     let flags = image::byte_at(image, 40);

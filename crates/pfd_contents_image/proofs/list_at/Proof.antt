@@ -16,28 +16,28 @@ found : (m : List ℕ) (at p n k : ℕ)
 unfolding listAt
 found m at p n k q0 q1 q2 = rw (q2, q1, q0)
 
-u64-at-requires : tie.Need-u64-at-requires
-u64-at-requires c κs = search needs
+number-at-requires : tie.Need-number-at-requires
+number-at-requires c κs = search needs
 
-add-u64-at : tie.Need-add-u64-at
-add-u64-at c = search needs
+add-number-at : tie.Need-add-number-at
+add-number-at c = search needs
 
-u64-at-requires-2 : tie.Need-u64-at-requires-2
-u64-at-requires-2 c κs = search needs
+number-at-requires-2 : tie.Need-number-at-requires-2
+number-at-requires-2 c κs = search needs
 
-add-u64-at-2 : tie.Need-add-u64-at-2
-add-u64-at-2 c = search needs
+add-number-at-2 : tie.Need-add-number-at-2
+add-number-at-2 c = search needs
 
-u64-at-requires-3 : tie.Need-u64-at-requires-3
-u64-at-requires-3 c κs = search needs
+number-at-requires-3 : tie.Need-number-at-requires-3
+number-at-requires-3 c κs = search needs
 
 returns : tie.Need-returns
 returns c =
     let c2 = c .before in
     let c1 = c2 .before in
-    found _ _ _ _ _ (c1 .u64-at .ensures) (c2 .u64-at2 .ensures) (c .u64-at3 .ensures)
+    found _ _ _ _ _ (c1 .number-at .ensures) (c2 .number-at2 .ensures) (c .number-at3 .ensures)
 
 pub list-at-spec : {M : Type 1} → statement M
 list-at-spec =
     tie.close
-    (tie.spec u64-at-requires add-u64-at u64-at-requires-2 add-u64-at-2 u64-at-requires-3 returns)
+    (tie.spec number-at-requires add-number-at number-at-requires-2 add-number-at-2 number-at-requires-3 returns)

@@ -1,4 +1,5 @@
 -- `pfd_contents_image::record_at` meets its contract: each field from its place.
+use native.Mathlib.Omega.{arith}
 use Prim.Native.Nat.{ℕ}
 use mathlib.Core.Path.{_≡_}
 use mathlib.Core.Bool.{Bool}
@@ -70,13 +71,13 @@ text-at-requires-5 : tie.Need-text-at-requires-5
 text-at-requires-5 c κs = search needs
 
 list-at-requires : tie.Need-list-at-requires
-list-at-requires c κs = search needs
+list-at-requires c κs = omega (arith, c .before .before .before .before .before .before .before .before .before .before .before .before .before .pre)
 
 list-at-requires-2 : tie.Need-list-at-requires-2
-list-at-requires-2 c κs = search needs
+list-at-requires-2 c κs = omega (arith, c .before .before .before .before .before .before .before .before .before .before .before .before .before .before .pre)
 
 list-at-requires-3 : tie.Need-list-at-requires-3
-list-at-requires-3 c κs = search needs
+list-at-requires-3 c κs = omega (arith, c .before .before .before .before .before .before .before .before .before .before .before .before .before .before .before .pre)
 
 returns : tie.Need-returns
 returns c =

@@ -1,6 +1,9 @@
 -- `pfd_contents_image::write` meets its contract: by whether the image and the report have their bytes.
-use Prim.Native.Nat.{ℕ}
-use mathlib.Core.Path.{_≡_}
+use Prim.Native.Nat.{ℕ, _≤_}
+use mathlib.Core.Path.{_≡_, refl, sym, _∙_}
+use mathlib.Core.Bool.{Bool, true, false, not, _&&_, false≢true}
+use borrow.Author.Tests.{leb-true, not-false}
+use lib.Dec.{leb}
 use mathlib.Core.List.{List}
 use lib.ListN.{length}
 use Rattle.answer.specs.declared.Written.{Written}
@@ -22,6 +25,13 @@ module _ (m texts d : List ℕ) (r : PfdContents) (e : r ≡ recordAt m) where
   unfolding stores
   left o q = rw e at q
 
+long-image : (t : Bool) (a b : ℕ) → t ≡ (leb 194 a && leb 40 b) → not t ≡ false → 194 ≤ a
+long-image t a b k h = go (leb 194 a) refl (sym k ∙ not-false t h)
+  where
+    go : (u : Bool) → leb 194 a ≡ u → (u && leb 40 b) ≡ true → 194 ≤ a
+    go true e q = leb-true 194 a e
+    go false e q = absurd (false≢true q)
+
 long-enough-requires : tie.Need-long-enough-requires
 long-enough-requires c κs = search needs
 
@@ -32,7 +42,9 @@ returns c =
     (number-short _ _ k h _, (output-short _ _ k h _ _, report-short _ _ k h _ _))
 
 record-at-requires : tie.Need-record-at-requires
-record-at-requires c κs = search needs
+record-at-requires c κs =
+    let a = c .before .before .before .before .before .before .args in
+    long-image (c .before .long-enough .result) (length (a .image .now)) (length (a .report .now)) (c .before .long-enough .ensures) (c .if1 .left)
 
 marshal-requires : tie.Need-marshal-requires
 marshal-requires c κs = search needs
