@@ -1,6 +1,6 @@
 -- What is put into an image is read back from it: numbers, flags, addresses, and so a record. No contract cites this file.
 use Prim.Native.Nat.{ℕ, zero, suc, _+_, _*_, _/_, _%_, _^_, _≤_, _<_}
-use native.Mathlib.Nat.{add-zero, pow-suc, pow-zero, div-one, div-lt-iff-lt-mul, zero-div}
+use native.Mathlib.Nat.{add-zero, pow-suc, pow-zero, div-lt-iff-lt-mul, zero-div}
 use native.Mathlib.Omega.{arith}
 use mathlib.Core.Path.{_≡_, refl, sym, ap, _∙_}
 use mathlib.Core.Bool.{Bool, true, false}
@@ -17,8 +17,8 @@ use Rattle.octets.specs.declared.MaybeU16.{MaybeU16}
 use Rattle.octets.specs.declared.MaybeU32.{MaybeU32}
 use Rattle.octets.specs.Octets.{pick, bit, under, flagByte, Bytes, field, bigEndian, isNumber, u16Of, u32Of, ipv4Of, ipv6Of, over}
 use Rattle.octets.proofs.Laws.{bytes-take, bytes-drop, bigEndian-less, number-below, number-fits, ipv4-octets, ipv6-octets, put-fits}
-use Rattle.image.specs.Image.{low, lowNumber, numberAt, filled, head, laid}
-use Rattle.image.proofs.Laws.{length-low, length-head}
+use Rattle.image.specs.Image.{low, lowNumber, numberAt, filled, head, laid, whole}
+use Rattle.image.proofs.Laws.{length-low, length-put, length-head}
 
 -- ---- numbers and flags
 low-back : (w x : ℕ) → x < 256 ^ w → lowNumber (low w x) ≡ x
@@ -109,6 +109,10 @@ module _ {m ys : List ℕ} {at : ℕ} where
   pub octets6 : (bs : List ℕ) → length bs ≡ 16 → Stands m at (bs ++ ys) → (ipv6Of (field m at 16) .octets ≡ bs) × Stands m (at + 16) ys
   octets6 bs l h = let (e, next) = part bs 16 l h in (rw e (ipv6-octets bs l), next)
 
+-- a part that is two itself
+pub apart : {m : List ℕ} {at : ℕ} (xs zs ys : List ℕ) → Stands m at ((xs ++ zs) ++ ys) → Stands m at (xs ++ (zs ++ ys))
+apart xs zs ys h = record { rest = h .rest; is = h .is ∙ ap (λ (l : List ℕ). l ++ h .rest) (append-assoc xs zs ys) }
+
 -- the last field has nothing behind it
 pub last : {m xs : List ℕ} {at : ℕ} → Stands m at xs → Stands m at (xs ++ [])
 last {xs = xs} h = record { rest = h .rest; is = h .is ∙ ap (λ (l : List ℕ). l ++ h .rest) (sym (append-nil xs)) }
@@ -180,3 +184,9 @@ pub image-left : {R : Type 0} (size : ℕ) {recordAt : List ℕ → R} {bytes : 
 image-left size {bytes = bytes} i a n d room =
     let l : length (head a n ++ bytes) ≡ 40 + size = omega (arith, length-append (head a n) bytes, length-head a n, i .size-is) in
     i .found _ (part (head a n) 40 (length-head a n) (stands (40 + size) d (head a n ++ bytes) l room) .1)
+
+-- that memory is still long enough to be written
+pub still-whole : (size : ℕ) (d bytes report : List ℕ) → size ≤ length d → 40 ≤ length report → whole size (laid size d bytes) report ≡ true
+unfolding laid
+still-whole size d bytes report room k =
+    rw (le-leb size (length d) room, length-put d 0 bytes, le-leb size (length d) room, le-leb 40 (length report) k)
