@@ -292,27 +292,40 @@ fn ascii_rest(text: &[u8], from: usize) -> bool
     ascii_at(text, at, WORD)
 }
 
-// Where the longest well-formed beginning ends. A block that is not all ASCII is passed by its
+// Where the well-formed sequences from a place on end. As many bytes as a block has are passed by their
 // sequences before ASCII is tried again, so that the time is linear.
+fn scan_from(text: &[u8], from: usize) -> Stop
+    requires { ⌜ from ≤ length (now text) ⌝ }
+    ensures { λ r. ⌜ Passed (now (text .entry)) from (r .at) ⌝ }
+    ensures { λ r. ⌜ Stopped (now (text .entry)) (r .at) (r .begun) ⌝ }
+{
+    let n = text.len();
+    let mut at = from;
+    while at < n {
+        let end = least(at + BLOCK, n);
+        at = stride(text, at, end);
+        if at < end {
+            return walk(text, at);
+        }
+        at = ascii_end(text, at, BLOCK);
+    }
+    Stop { at, begun: 0 }
+}
+
+// Where the longest well-formed beginning ends. A text of ASCII alone ends before the sequences.
 fn scan(text: &[u8]) -> Stop
     ensures { λ r. ⌜ Passed (now (text .entry)) 0 (r .at) ⌝ }
     ensures { λ r. ⌜ Stopped (now (text .entry)) (r .at) (r .begun) ⌝ }
 {
-    let n = text.len();
-    let mut at = 0;
-    while at < n {
-        let blocks = ascii_end(text, at, BLOCK);
-        let words = ascii_end(text, blocks, WORD);
-        if ascii_rest(text, words) {
-            return Stop { at: n, begun: 0 };
-        }
-        let end = least(words + BLOCK, n);
-        at = stride(text, words, end);
-        if at < end {
-            return walk(text, at);
-        }
+    let blocks = ascii_end(text, 0, BLOCK);
+    let words = ascii_end(text, blocks, WORD);
+    if ascii_rest(text, words) {
+        return Stop {
+            at: text.len(),
+            begun: 0,
+        };
     }
-    Stop { at, begun: 0 }
+    scan_from(text, words)
 }
 
 // The length of the longest beginning of `text` that is well formed.
