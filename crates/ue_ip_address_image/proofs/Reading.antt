@@ -54,11 +54,11 @@ unlike : true ≡ false → ⊥
 unlike e = let z : _≡_ {A = ℕ} (pick true 0 1) (pick false 0 1) = ap (λ (t : Bool). pick t 0 1) e in omega arith
 
 -- what is left of two flags
-first-off : (a b : Bool) → a || b ≡ false → a ≡ false
+pub first-off : (a b : Bool) → a || b ≡ false → a ≡ false
 first-off false b e = refl
 first-off true b e = absurd (unlike e)
 
-second-off : (a b : Bool) → a || b ≡ false → b ≡ false
+pub second-off : (a b : Bool) → a || b ≡ false → b ≡ false
 second-off false b e = e
 second-off true b e = absurd (unlike e)
 
@@ -71,10 +71,7 @@ the-other false b e t = sym e
 the-other true b e t = absurd (unlike t)
 
 -- V4 with CHV4, or V6 with CHV6
-module _ (s : List ℕ) (b1 b4 x4 b0 b5 x6 t : Bool) (q1 : b1 ≡ bit 1 (getD s 0 0)) (q4 : b4 ≡ bit 4 (getD s 0 0)) (r4 : x4 ≡ b1 && b4) (q0 : b0 ≡ bit 0 (getD s 0 0)) (q5 : b5 ≡ bit 5 (getD s 0 0)) (r6 : x6 ≡ b0 && b5) (r : t ≡ x4 || x6) where
-  once : t ≡ bit 1 (getD s 0 0) && bit 4 (getD s 0 0) || bit 0 (getD s 0 0) && bit 5 (getD s 0 0)
-  once = rw (← q1, ← q4, ← q0, ← q5, ← r4, ← r6) r
-
+module _ (s : List ℕ) (t : Bool) (once : t ≡ bit 1 (getD s 0 0) && bit 4 (getD s 0 0) || bit 0 (getD s 0 0) && bit 5 (getD s 0 0)) where
   module _ (h : t ≡ true) where
     rule1 : rule (getD s 0 0) ≡ 1
     unfolding broken

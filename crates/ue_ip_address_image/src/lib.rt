@@ -288,6 +288,20 @@ fn read_prefixed(payload: &[u8], image: &mut [u8]) -> u64
     read_prefix(payload, image, false)
 }
 
+// Whether flags break rule 1. Most have neither CHV4 nor CHV6, and then one test is enough.
+fn chosen_twice(flags: u8) -> bool
+    ensures { λ r. ⌜ r ≡ bit 1 flags && bit 4 flags || bit 0 flags && bit 5 flags ⌝ }
+{
+    let choose_ipv4 = octets::bit(flags, 4);
+    let choose_ipv6 = octets::bit(flags, 5);
+    if !octets::either(choose_ipv4, choose_ipv6) {
+        return false;
+    }
+    let ipv4 = octets::both(octets::bit(flags, 1), choose_ipv4);
+    let ipv6 = octets::both(octets::bit(flags, 0), choose_ipv6);
+    octets::either(ipv4, ipv6)
+}
+
 // The ways of a payload that has its flags.
 fn read_flagged(payload: &[u8], image: &mut [u8]) -> u64
     requires { ⌜ 64 ≤ length (now image) ⌝ }
@@ -297,9 +311,7 @@ fn read_flagged(payload: &[u8], image: &mut [u8]) -> u64
     ensures { λ r. ⌜ now (image .exit) ≡ put (now (image .entry)) 0 (imageOf (read (now (payload .entry)))) ⌝ }
 {
     let flags = payload[0];
-    let ipv4 = octets::both(octets::bit(flags, 1), octets::bit(flags, 4));
-    let ipv6 = octets::both(octets::bit(flags, 0), octets::bit(flags, 5));
-    if octets::either(ipv4, ipv6) {
+    if chosen_twice(flags) {
         return put_flags(image, flags, 1);
     }
     if octets::either(octets::bit(flags, 3), octets::bit(flags, 6)) {
@@ -345,11 +357,11 @@ pub fn read(payload: &[u8], image: &mut [u8]) -> u64
         return 8;
     }
     let n = payload.len();
-    if 65535 < n {
-        return put_refused(image, 5, n as u64, 0, 0);
-    }
     if n < UeIpAddress::MIN_LEN {
         return put_short(image, 0, UeIpAddress::MIN_LEN, n);
+    }
+    if 65535 < n {
+        return put_refused(image, 5, n as u64, 0, 0);
     }
     read_flagged(payload, image)
 }

@@ -1,9 +1,10 @@
 -- `ue_ip_address_image::read` meets its contract: by the room and the payload's length.
 use Prim.Native.Nat.{ℕ, _≤_, _<_}
+use native.Mathlib.Omega.{arith}
 use mathlib.Core.Path.{_≡_}
 use mathlib.Core.List.{List}
 use lib.ListN.{length}
-use Rattle.answer.specs.declared.Answer.the-variants.{Short, TooLong}
+use Rattle.answer.specs.declared.Answer.the-variants.{Short}
 use Rattle.answer.specs.Paper.{numberOf}
 use Rattle.octets.specs.Octets.{put}
 use Rattle.ue_ip_address.specs.UeIpAddress.{read, refused}
@@ -30,33 +31,33 @@ module _ (s d : List ℕ) (room : 64 ≤ length d) where
   laid-over : (e : List ℕ) → 65535 < length s → e ≡ put d 0 (refusal 5 (length s) 0 0) → e ≡ laid 64 d (imageOf (read s))
   laid-over e h q = laid-done e (rw (← long s h) (long-image d e (length s) q))
 
-  told-none : (k : ℕ) → length s ≤ 65535 → length s < 1 → k ≡ 1 → k ≡ told 64 d (read s .answer)
+  told-none : (k : ℕ) → length s < 1 → k ≡ 1 → k ≡ told 64 d (read s .answer)
   unfolding refused
-  told-none k f h q = told-done k (rw (← headless s f h) q)
+  told-none k h q = told-done k (rw (← headless s (omega arith) h) q)
 
-  laid-none : (e : List ℕ) → length s ≤ 65535 → length s < 1 → e ≡ put d 0 (imageOf (refused (Short 0 1 (length s)))) → e ≡ laid 64 d (imageOf (read s))
-  laid-none e f h q = laid-done e (rw (← headless s f h) q)
+  laid-none : (e : List ℕ) → length s < 1 → e ≡ put d 0 (imageOf (refused (Short 0 1 (length s)))) → e ≡ laid 64 d (imageOf (read s))
+  laid-none e h q = laid-done e (rw (← headless s (omega arith) h) q)
 
 returns : tie.Need-returns
 returns c = (told-short 64 _ _ (c .if1 .taken), laid-short 64 _ _ (c .if1 .taken))
 
-put-refused-requires : tie.Need-put-refused-requires
-put-refused-requires c κs = search needs
+put-short-requires : tie.Need-put-short-requires
+put-short-requires c κs = search needs
 
 same-length : tie.Need-same-length
 same-length c = search needs
 
 returns-2 : tie.Need-returns-2
-returns-2 c = (search told-over, search laid-over)
+returns-2 c = (search told-none, search laid-none)
 
-put-short-requires : tie.Need-put-short-requires
-put-short-requires c κs = search needs
+put-refused-requires : tie.Need-put-refused-requires
+put-refused-requires c κs = search needs
 
 same-length-2 : tie.Need-same-length-2
 same-length-2 c = search needs
 
 returns-3 : tie.Need-returns-3
-returns-3 c = (search told-none, search laid-none)
+returns-3 c = (search told-over, search laid-over)
 
 read-flagged-requires : tie.Need-read-flagged-requires
 read-flagged-requires c κs = search needs
@@ -68,4 +69,16 @@ returns-4 : tie.Need-returns-4
 returns-4 c = (search told-done, search laid-done)
 
 pub read-spec : {M : Type 1} → statement M
-read-spec = tie.close (tie.spec returns put-refused-requires same-length returns-2 put-short-requires same-length-2 returns-3 read-flagged-requires same-length-3 returns-4)
+read-spec =
+    tie.close
+    (tie.spec
+    returns
+    put-short-requires
+    same-length
+    returns-2
+    put-refused-requires
+    same-length-2
+    returns-3
+    read-flagged-requires
+    same-length-3
+    returns-4)
