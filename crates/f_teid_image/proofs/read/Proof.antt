@@ -3,7 +3,7 @@ use Prim.Native.Nat.{ℕ, _≤_, _<_}
 use mathlib.Core.Path.{_≡_}
 use mathlib.Core.List.{List}
 use lib.ListN.{length}
-use Rattle.answer.specs.declared.Answer.the-variants.{Short, TooLong}
+use Rattle.answer.specs.declared.Answer.the-variants.{Short}
 use Rattle.answer.specs.Paper.{numberOf}
 use Rattle.octets.specs.Octets.{put}
 use Rattle.f_teid.specs.Fteid.{read, refused}
