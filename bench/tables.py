@@ -165,6 +165,9 @@ def missing(costs):
     print("\n## Targets missed\n")
     all_of = 0
     for kind in costs:
+        read = ratios(costs, kind, "read")
+        if read and sum(read) / len(read) > MEAN:
+            print(f"- {KINDS[kind]}, mean of the reads: {sum(read) / len(read):.3f}")
         for what in ("read", "refused", "write", "utf8"):
             found = {name: ratio(whats[what]) for name, whats in costs[kind].items() if what in whats}
             all_of += len(found)
