@@ -7,7 +7,7 @@
 use Prim.Native.Nat.{ℕ}
 use mathlib.Core.Bool.{Bool}
 use mathlib.Core.List.{List, [], _∷_, _++_}
-use lib.ListN.{length, getD}
+use lib.ListN.{length, getD, replicate}
 use Rattle.answer.specs.declared.Written.{Written}
 use Rattle.answer.specs.Paper.{written}
 use Rattle.octets.specs.Octets.{bit, under, flagByte, field, ipv4Of, ipv6Of, put}
@@ -28,6 +28,10 @@ recordImage r =
 -- the image of what a read answered
 abbrev pub imageOf : FseidRead → List ℕ
 imageOf r = head (r .answer) (r .used) ++ recordImage (r .«record»)
+
+-- the image of a refusal: its number and values, then the used count and the empty record, which are zeros
+unfoldable pub refusal : (number v0 v1 v2 : ℕ) → List ℕ
+refusal number v0 v1 v2 = low 8 number ++ (low 8 v0 ++ (low 8 v1 ++ (low 8 v2 ++ replicate 38 0)))
 
 -- the record that stands in an image
 unfoldable pub recordAt : List ℕ → Fseid
