@@ -7,7 +7,7 @@
 use Prim.Native.Nat.{ℕ, zero, suc}
 use mathlib.Core.Bool.{Bool, true, false}
 use mathlib.Core.List.{List, _∷_, _++_}
-use lib.ListN.{length, getD}
+use lib.ListN.{length, getD, replicate}
 use Rattle.answer.specs.declared.Written.{Written}
 use Rattle.octets.specs.Octets.{field, ipv4Of, ipv6Of}
 use Rattle.kind.specs.Write.{answered, stored}
@@ -51,6 +51,11 @@ recordImage r =
 -- the image of what a read answered
 abbrev pub imageOf : NodeIdRead → List ℕ
 imageOf r = head (r .answer) (r .used) ++ recordImage (r .«record»)
+
+-- the image of a refusal: its number and values, the used count 0, and the empty name, which is all zeros behind its type
+unfoldable pub refusalImage : (number v0 v1 v2 : ℕ) → List ℕ
+refusalImage number v0 v1 v2 =
+    low 8 number ++ (low 8 v0 ++ (low 8 v1 ++ (low 8 v2 ++ (low 8 0 ++ 2 ∷ replicate 36 0))))
 
 -- the record that stands in an image
 unfoldable pub recordAt : List ℕ → NodeId

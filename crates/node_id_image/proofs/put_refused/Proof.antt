@@ -1,0 +1,90 @@
+-- `node_id_image::put_refused` meets its contract: its puts, from the back to the front, are one put of the image.
+use Prim.Native.Nat.{ℕ, _≤_}
+use native.Mathlib.Omega.{arith}
+use mathlib.Core.Path.{_≡_, refl}
+use mathlib.Core.List.{List, [], _∷_}
+use lib.ListN.{length, replicate}
+use Rattle.octets.specs.Octets.{put}
+use Rattle.image.specs.Image.{low}
+use Rattle.image.proofs.Laws.{last-part, then-byte, then-number}
+use Rattle.node_id_image.specs.NodeIdImage.{refusalImage}
+use borrow.Author.Needs.{needs}
+use Rattle.node_id_image.proofs.put_refused.Statement.{statement}
+use Rattle.node_id_image.proofs.put_refused.Tie as tie
+
+stored : (d d1 d2 d3 d4 d5 d6 d7 : List ℕ) (k x y z : ℕ) → 77 ≤ length d
+    → d1 ≡ put d 41 (replicate 36 0)
+    → d2 ≡ put d1 40 (2 ∷ [])
+    → d3 ≡ put d2 32 (low 8 0)
+    → d4 ≡ put d3 24 (low 8 z)
+    → d5 ≡ put d4 16 (low 8 y)
+    → d6 ≡ put d5 8 (low 8 x)
+    → d7 ≡ put d6 0 (low 8 k)
+    → d7 ≡ put d 0 (refusalImage k x y z)
+unfolding refusalImage
+stored d d1 d2 d3 d4 d5 d6 d7 k x y z room q1 q2 q3 q4 q5 q6 q7 =
+    let s1 = last-part 77 36 41 (replicate 36 0) room refl refl q1 in
+    let s2 = then-byte s1 40 2 q2 refl in
+    let s3 = then-number s2 32 0 q3 refl in
+    let s4 = then-number s3 24 z q4 refl in
+    let s5 = then-number s4 16 y q5 refl in
+    let s6 = then-number s5 8 x q6 refl in
+    then-number s6 0 k q7 refl .is
+
+returns : tie.Need-returns
+returns c = absurd (omega arith)
+
+slice-aggregate-put-bytes : tie.Need-slice-aggregate-put-bytes
+slice-aggregate-put-bytes c = search needs
+
+put-bytes-requires : tie.Need-put-bytes-requires
+put-bytes-requires c κs = search needs
+
+put-byte-requires : tie.Need-put-byte-requires
+put-byte-requires c κs = search needs
+
+put-u64-requires : tie.Need-put-u64-requires
+put-u64-requires c κs = search needs
+
+put-u64-requires-2 : tie.Need-put-u64-requires-2
+put-u64-requires-2 c κs = search needs
+
+put-u64-requires-3 : tie.Need-put-u64-requires-3
+put-u64-requires-3 c κs = search needs
+
+put-u64-requires-4 : tie.Need-put-u64-requires-4
+put-u64-requires-4 c κs = search needs
+
+put-u64-requires-5 : tie.Need-put-u64-requires-5
+put-u64-requires-5 c κs = search needs
+
+same-length : tie.Need-same-length
+same-length c = search needs
+
+returns-2 : tie.Need-returns-2
+returns-2 c =
+    let p7 = c .before .before in
+    let p6 = p7 .before .before .before .before in
+    let p5 = p6 .before .before .before .before in
+    let p4 = p5 .before .before .before .before in
+    let p3 = p4 .before .before .before .before in
+    let p2 = p3 .before .before .before .before in
+    let p1 = p2 .before .before .before .before in
+    let start = p1 .before .before .before .before .before in
+    (refl, stored _ _ _ _ _ _ _ _ _ _ _ _ (start .pre) (p1 .put-bytes .ensures) (p2 .put-byte .ensures) (p3 .put-u64 .ensures) (p4 .put-u642 .ensures) (p5 .put-u643 .ensures) (p6 .put-u644 .ensures) (p7 .put-u645 .ensures))
+
+pub put-refused-spec : {M : Type 1} → statement M
+put-refused-spec =
+    tie.close
+    (tie.spec
+    returns
+    slice-aggregate-put-bytes
+    put-bytes-requires
+    put-byte-requires
+    put-u64-requires
+    put-u64-requires-2
+    put-u64-requires-3
+    put-u64-requires-4
+    put-u64-requires-5
+    same-length
+    returns-2)
