@@ -2,7 +2,7 @@
 use Prim.Native.Nat.{ℕ, zero, suc, _+_, _-_, _≤_, _<_}
 use native.Mathlib.Omega.{arith}
 use mathlib.Core.Path.{_≡_, refl, sym, ap, _∙_}
-use mathlib.Core.List.{List, [], _∷_, _++_}
+use mathlib.Core.List.{List, _++_}
 use lib.ListN.{length, getD, drop, take, length-drop}
 use lib.Seq.{take-all}
 use borrow.Author.Tests.{le-leb, lt-leb, ne-eqb}
@@ -14,7 +14,6 @@ use Rattle.octets.specs.Octets.{field, ipv4Of, ipv6Of, put}
 use Rattle.octets.proofs.Laws.{length-field, ipv4-octets, ipv6-octets}
 use Rattle.text.specs.Utf8.{goodLen}
 use Rattle.node_id.specs.declared.NodeId.{NodeId}
-use Rattle.node_id.specs.declared.NodeIdRead.{NodeIdRead}
 use Rattle.node_id.specs.NodeId.{ofIpv4, ofIpv6, named, refused, accepted, readIpv4, readIpv6, readFqdn, byType, read}
 use Rattle.node_id.proofs.Laws.{typed, whole4, whole6, wholeName}
 use Rattle.image.specs.Image.{low, filled, head}
@@ -120,16 +119,16 @@ module _ (s : List ℕ) (f : length s ≤ 65535) (a : 0 < length s) where
     laid-name r o o′ n k q = rw (named-whole n) (rw k at q)
 
   -- ---- any other type
-  module _ (e0 : getD s 0 0 ≡ 0 → ⊥) (e1 : getD s 0 0 ≡ 1 → ⊥) (e2 : getD s 0 0 ≡ 2 → ⊥) where
-    other : (b : ℕ) → (b ≡ 0 → ⊥) → (b ≡ 1 → ⊥) → (b ≡ 2 → ⊥) → refused (NodeType b) ≡ byType b s
+  module _ (h : 2 ≤ getD s 0 0) (e : getD s 0 0 ≡ 2 → ⊥) where
+    other : (b : ℕ) → 2 ≤ b → (b ≡ 2 → ⊥) → refused (NodeType b) ≡ byType b s
     unfolding byType
-    other zero h h1 h2 = absurd (h refl)
-    other (suc zero) h h1 h2 = absurd (h1 refl)
-    other (suc (suc zero)) h h1 h2 = absurd (h2 refl)
-    other (suc (suc (suc b))) h h1 h2 = refl
+    other zero g n = absurd (omega arith)
+    other (suc zero) g n = absurd (omega arith)
+    other (suc (suc zero)) g n = absurd (n refl)
+    other (suc (suc (suc b))) g n = refl
 
     untyped : refused (NodeType (getD s 0 0)) ≡ read s
-    untyped = other (getD s 0 0) e0 e1 e2 ∙ sym (typed s f a)
+    untyped = other (getD s 0 0) h e ∙ sym (typed s f a)
 
     pub said-untyped : (k : ℕ) → k ≡ 3 → k ≡ numberOf (read s .answer)
     unfolding refused

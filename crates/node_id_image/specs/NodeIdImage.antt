@@ -55,7 +55,7 @@ imageOf r = head (r .answer) (r .used) ++ recordImage (r .«record»)
 -- the image of a refusal: its number and values, the used count 0, and the empty name, which is all zeros behind its type
 unfoldable pub refusalImage : (number v0 v1 v2 : ℕ) → List ℕ
 refusalImage number v0 v1 v2 =
-    low 8 number ++ (low 8 v0 ++ (low 8 v1 ++ (low 8 v2 ++ (low 8 0 ++ 2 ∷ replicate 36 0))))
+    low 8 number ++ (low 8 v0 ++ (low 8 v1 ++ (low 8 v2 ++ (replicate 8 0 ++ 2 ∷ replicate 36 0))))
 
 -- the record that stands in an image
 unfoldable pub recordAt : List ℕ → NodeId

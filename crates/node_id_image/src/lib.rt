@@ -92,7 +92,8 @@ fn put_image(out: &mut [u8], used: usize, record: NodeId)
     image::put_head(out, Answer::Done, used);
 }
 
-// Puts the image of a refusal, by its number and values: the used count is 0, and the record is the empty name.
+// Puts the image of a refusal, by its number and values: the used count is 0, and the record is the empty name. Its type is put
+// over the zeros, which then take the fewest stores.
 fn put_refused(out: &mut [u8], number: u64, v0: u64, v1: u64, v2: u64) -> u64
     requires { ⌜ 77 ≤ length (now out) ⌝ }
     ensures { λ r. ⌜ r ≡ number ⌝ }
@@ -101,10 +102,9 @@ fn put_refused(out: &mut [u8], number: u64, v0: u64, v1: u64, v2: u64) -> u64
     if out.len() < SIZE {
         return number;
     }
-    let none = [0u8; 36];
-    octets::put_bytes(out, 41, &none);
+    let none = [0u8; 45];
+    octets::put_bytes(out, 32, &none);
     octets::put_byte(out, 40, 2);
-    image::put_u64(out, 32, 0);
     image::put_u64(out, 24, v2);
     image::put_u64(out, 16, v1);
     image::put_u64(out, 8, v0);
@@ -191,7 +191,7 @@ fn read_name(payload: &[u8], image: &mut [u8]) -> u64
     0
 }
 
-// The ways of a payload that has its type.
+// The ways of a payload that has its type. One test tells the addresses from the rest, so that both have the fewest.
 fn read_typed(payload: &[u8], image: &mut [u8]) -> u64
     requires { ⌜ 77 ≤ length (now image) ⌝ }
     requires { ⌜ 0 < length (now payload) ⌝ }
@@ -200,10 +200,10 @@ fn read_typed(payload: &[u8], image: &mut [u8]) -> u64
     ensures { λ r. ⌜ now (image .exit) ≡ put (now (image .entry)) 0 (imageOf (read (now (payload .entry)))) ⌝ }
 {
     let kind = payload[0];
-    if kind == 0 {
-        return read_ipv4(payload, image);
-    }
-    if kind == 1 {
+    if kind < 2 {
+        if kind == 0 {
+            return read_ipv4(payload, image);
+        }
         return read_ipv6(payload, image);
     }
     if kind == 2 {
