@@ -7,16 +7,16 @@
 --   66  S-TAG, a number whose low 32 bits count
 --   74  IPv4
 --   78  IPv6
-use Prim.Native.Nat.{ℕ, _%_}
-use mathlib.Core.Bool.{Bool}
+use Prim.Native.Nat.{ℕ, _+_, _%_}
+use mathlib.Core.Bool.{Bool, _&&_}
 use mathlib.Core.List.{List, [], _∷_, _++_}
-use lib.ListN.{length, getD}
+use lib.ListN.{length, getD, replicate}
 use Rattle.answer.specs.declared.Written.{Written}
 use Rattle.answer.specs.Paper.{written}
-use Rattle.octets.specs.Octets.{bit, under, flagByte, field, ipv4Of, ipv6Of, put}
+use Rattle.octets.specs.Octets.{bit, under, flagByte, field, ipv4Of, ipv6Of, ipv4Meaning, ipv6Meaning, bytesIf, put}
 use Rattle.outer_header_creation.specs.declared.OuterHeaderCreation.{OuterHeaderCreation}
 use Rattle.outer_header_creation.specs.declared.OuterHeaderCreationRead.{OuterHeaderCreationRead}
-use Rattle.outer_header_creation.specs.OuterHeaderCreation.{flagsOf, byteOf, meaning, wire}
+use Rattle.outer_header_creation.specs.OuterHeaderCreation.{flagsOf, byteOf, asked, meaning, wire}
 use Rattle.image.specs.Image.{low, numberAt, filled, head}
 
 -- the bytes of a record
@@ -42,6 +42,53 @@ recordImage r =
 abbrev pub imageOf : OuterHeaderCreationRead → List ℕ
 imageOf r = head (r .answer) (r .used) ++ recordImage (r .«record»)
 
+-- the image of a refusal: its number and values, then the used count and the empty record, which are zeros
+unfoldable pub refusal : (number v0 v1 v2 : ℕ) → List ℕ
+refusal number v0 v1 v2 = low 8 number ++ (low 8 v0 ++ (low 8 v1 ++ (low 8 v2 ++ replicate 62 0)))
+
+-- which fields a payload has, and where they end
+pub record Fields : Type 0 where
+  pub teid : Bool
+  pub ipv4 : Bool
+  pub ipv6 : Bool
+  pub port : Bool
+  pub ctag : Bool
+  pub stag : Bool
+
+pub record Ends : Type 0 where
+  pub teid : ℕ
+  pub ipv4 : ℕ
+  pub ipv6 : ℕ
+  pub port : ℕ
+  pub ctag : ℕ
+  pub stag : ℕ
+
+abbrev pub sentOf : (teid ipv4 ipv6 port ctag stag : Bool) → Fields
+sentOf teid ipv4 ipv6 port ctag stag =
+    record { teid = teid; ipv4 = ipv4; ipv6 = ipv6; port = port; ctag = ctag; stag = stag }
+
+abbrev pub endsAt : (teid ipv4 ipv6 port ctag stag : ℕ) → Ends
+endsAt teid ipv4 ipv6 port ctag stag =
+    record { teid = teid; ipv4 = ipv4; ipv6 = ipv6; port = port; ctag = ctag; stag = stag }
+
+-- those that its flags ask for
+abbrev pub sentBy : List ℕ → Fields
+sentBy s =
+    let a = asked (flagsOf (getD s 0 0)) in
+    sentOf (a .teid) (a .ipv4) (a .ipv6) (a .port) (a .ctag) (a .stag)
+
+abbrev pub endsOf : Fields → Ends
+endsOf a =
+    let teid = 2 + under (a .teid) 4 in
+    let ipv4 = teid + under (a .ipv4) 4 in
+    let ipv6 = ipv4 + under (a .ipv6) 16 in
+    let port = ipv6 + under (a .port) 2 in
+    let ctag = port + under (a .ctag) 3 in
+    endsAt teid ipv4 ipv6 port ctag (ctag + under (a .stag) 3)
+
+abbrev pub endsIn : List ℕ → Ends
+endsIn s = endsOf (sentBy s)
+
 -- the record that stands in an image
 unfoldable pub recordAt : List ℕ → OuterHeaderCreation
 recordAt m =
@@ -65,3 +112,22 @@ writes m out = written (length (form m)) (length out)
 
 unfoldable pub stores : List ℕ → List ℕ → List ℕ
 stores m out = put out 0 (form m)
+
+-- how long the form is, by the flags and the fields given: each field that the flags ask for, an address or a tag only where it is given
+unfoldable pub lengthOf : ℕ → ℕ → ℕ
+lengthOf flags given =
+    let a = asked (flagsOf flags) in
+    2
+    + under (a .teid) 4
+    + under (a .ipv4 && bit 0 given) 4
+    + under (a .ipv6 && bit 1 given) 16
+    + under (a .port) 2
+    + under (a .ctag && bit 4 given) 3
+    + under (a .stag && bit 5 given) 3
+
+-- the bytes of an address that stands in an image, none where it isn't sent
+unfoldable pub ipv4At : List ℕ → Bool → List ℕ
+ipv4At m sent = bytesIf (ipv4Meaning (ipv4Of (field m 74 (under sent 4))))
+
+unfoldable pub ipv6At : List ℕ → Bool → List ℕ
+ipv6At m sent = bytesIf (ipv6Meaning (ipv6Of (field m 78 (under sent 16))))
