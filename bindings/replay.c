@@ -1,6 +1,6 @@
 /*
  * replay <LINES >ANSWERS
- * Answers recorded lines through libyerondatt.a and its header, each as the program `probe` does: payloads to be read,
+ * Answers recorded lines through libyerondatt.a and its header, each as the programs `probe` and `compose` do: payloads to be read,
  * records to be written, texts by their places (oracle/README.md has the forms). bindings/lines.awk picks the lines.
  * Every record goes from the image into its struct, is printed from the struct, is laid into an image again and written.
  * What an answer doesn't show is tested on the way; a line that fails is named on the error output, and the exit status
@@ -280,7 +280,7 @@ static void show_refusal(struct yerondatt_head head)
     case YERONDATT_NOT_UTF8:
         printf("4 0 - | err=4 place=%" PRIu64 "\n", v[0]);
         break;
-    case YERONDATT_TOO_LONG:
+    case YERONDATT_INPUT_TOO_LONG:
         printf("5 0 - | err=5 len=%" PRIu64 "\n", v[0]);
         break;
     default:
@@ -704,7 +704,7 @@ static void answer_record(const struct kind *kind, struct word line, bool is_raw
     from = lend_texts();
     head = write_record(kind, image, from, texts.len, find(line, "room=", &room) ? decimal(room) : kind->room);
     show_written(head, find(line, "brief", &brief));
-    if (!is_raw && (head.answer == YERONDATT_DONE || head.answer == YERONDATT_TOO_WIDE)) {
+    if (!is_raw && (head.answer == YERONDATT_DONE || head.answer == YERONDATT_OUTPUT_TOO_LONG)) {
         fputs(" | ", stdout);
         kind->show(image, from, false);
     }

@@ -50,11 +50,11 @@ enum yerondatt_answer {
     /* a text of the payload isn't UTF-8 [place in the payload of the first byte behind the well-formed beginning] */
     YERONDATT_NOT_UTF8 = 4,
     /* the payload, or the texts lent to a write, have more than 65,535 bytes [how many they have] */
-    YERONDATT_TOO_LONG = 5,
+    YERONDATT_INPUT_TOO_LONG = 5,
     /* a text or list of the record ends past the lent texts, isn't UTF-8, or its count and length disagree [field number] */
     YERONDATT_BAD_TEXT = 6,
     /* the written form would have more than 65,535 bytes */
-    YERONDATT_TOO_WIDE = 7,
+    YERONDATT_OUTPUT_TOO_LONG = 7,
     /*
      * The output is shorter than the written form [bytes needed]. Also where an image or a report is shorter than its size:
      * then nothing at all is changed, the report neither.

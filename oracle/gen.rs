@@ -1,4 +1,4 @@
-//! gen KIND N SEED [--form case|full|build|mixed|all] [--from A] [--open] [--list]
+//! gen KIND N SEED [--form case|full|build|all] [--from A] [--open] [--list]
 //!
 //! Prints the first N lines, or N lines from line A on, of an endless sequence of test lines. The sequence is
 //! fixed by KIND, form and SEED, and each line by its number too. Fixed lines come first, then all of what can
@@ -7,7 +7,6 @@
 //!   case    payload lines of at most 4,096 digit pairs
 //!   full    payload lines of at most 65,600 digit pairs
 //!   build   record lines
-//!   mixed   full and build by turns
 //!   all     of T: every text of at most three bytes
 //!
 //! --open leaves out the byte that ends the last line. --list makes a short list of small lines, to keep.
@@ -1113,7 +1112,7 @@ fn number(word: Option<String>, what: &str) -> u64 {
 
 fn main() {
     let mut args = std::env::args().skip(1);
-    let usage = "usage: gen KIND N SEED [--form case|full|build|mixed|all] [--from A] [--open] [--list]";
+    let usage = "usage: gen KIND N SEED [--form case|full|build|all] [--from A] [--open] [--list]";
     let letter = args.next().unwrap_or_else(|| stop(usage));
     let count = number(args.next(), "N");
     let seed = number(args.next(), "SEED");
@@ -1129,22 +1128,16 @@ fn main() {
     }
     let kind = KINDS.iter().find(|k| letter.as_bytes() == [k.letter]);
     let kind = kind.unwrap_or_else(|| stop(&format!("no kind {letter} yet")));
-    let built = !kind.calls.is_empty();
-    let sequences = match form.as_str() {
-        "case" => vec![Sequence::payloads(kind, 4_096, seed, list)],
-        "full" => vec![Sequence::payloads(kind, 65_600, seed, list)],
-        "build" if built => vec![Sequence::records(kind, seed, list)],
-        "mixed" if built => {
-            vec![Sequence::payloads(kind, 65_600, seed, list), Sequence::records(kind, seed, list)]
-        }
-        "all" => vec![Sequence::short_payloads(kind.letter, seed)],
+    let sequence = match form.as_str() {
+        "case" => Sequence::payloads(kind, 4_096, seed, list),
+        "full" => Sequence::payloads(kind, 65_600, seed, list),
+        "build" if !kind.calls.is_empty() => Sequence::records(kind, seed, list),
+        "all" => Sequence::short_payloads(kind.letter, seed),
         _ => stop(&format!("{letter} has no form {form}")),
     };
-    let turns = sequences.len() as u64;
     let mut out = std::io::BufWriter::with_capacity(1 << 16, std::io::stdout().lock());
     for i in from..from + count {
-        let s = &sequences[(i % turns) as usize];
-        let mut line = if list { s.listed(i / turns, count / turns) } else { s.line(i / turns) };
+        let mut line = if list { sequence.listed(i, count) } else { sequence.line(i) };
         if !(open && i + 1 == from + count) {
             line.push(b'\n');
         }

@@ -24,8 +24,8 @@ pub enum Fault {
     Other,          // the line is of no known form
     Text(u32),      // 6: no Rust String can hold the text of this field
     Rule(u32),      // 9: a builder's rule
-    TooLong(usize), // 5, only with --limit
-    TooWide,        // 7, only of raw lines
+    InputTooLong(usize), // 5, only with --limit
+    OutputTooLong,        // 7, only of raw lines
     NoRoom(usize),  // 8, only of raw lines
 }
 
@@ -57,8 +57,8 @@ fn refused(fault: Fault, out: &mut String) {
         Fault::Other => out.push_str(OTHER),
         Fault::Text(field) => write!(out, "6 {field} -").unwrap(),
         Fault::Rule(rule) => write!(out, "9 {rule} -").unwrap(),
-        Fault::TooLong(len) => write!(out, "5 {len} -").unwrap(),
-        Fault::TooWide => write!(out, "7 0 -").unwrap(),
+        Fault::InputTooLong(len) => write!(out, "5 {len} -").unwrap(),
+        Fault::OutputTooLong => write!(out, "7 0 -").unwrap(),
         Fault::NoRoom(needed) => write!(out, "8 {needed} -").unwrap(),
     }
 }
@@ -204,7 +204,7 @@ impl Texts {
 
     fn all_fit(&self) -> Made<()> {
         if self.limit && self.total > 65_535 {
-            return Err(Fault::TooLong(self.total));
+            return Err(Fault::InputTooLong(self.total));
         }
         Ok(())
     }

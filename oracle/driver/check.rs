@@ -49,7 +49,7 @@ fn of_refusal(p: &[u8], r: &Refusal) -> Vec<String> {
         Refusal::Length { expected, actual, .. } => actual == p.len() && expected > actual,
         Refusal::Flags { byte, .. } | Refusal::NodeType { byte } => p.first() == Some(&byte),
         Refusal::Utf8 { place, bad } => place < p.len() && bad <= 3 && same_by_std(&p[place..], bad),
-        Refusal::TooLong { .. } => false,
+        Refusal::InputTooLong { .. } => false,
     };
     if holds {
         return Vec::new();

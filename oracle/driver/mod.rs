@@ -39,17 +39,15 @@ impl Options {
 /// The answer of any line that is not of the asked form.
 const OTHER: &str = "? 0 -";
 
-/// What the program `probe` reads: its longest payload, and its longest line.
+/// What the program `probe` reads: its longest payload. The program `compose` reads lines that are no longer.
 const PROBE_PAIRS: usize = 65_600;
-const PROBE_LINE: usize = 2 + 2 * PROBE_PAIRS;
+const COMPOSE_LINE: usize = 2 + 2 * PROBE_PAIRS;
 
 type Mode = fn(&Options, &[u8], &mut String);
 
-/// A line of the program `probe`: `=` or `.` is in record lines alone.
-fn probe_line(o: &Options, line: &[u8], out: &mut String) {
-    if !line.iter().any(|c| matches!(c, b'=' | b'.')) {
-        payload::answer(o, line, out);
-    } else if line.len() <= PROBE_LINE {
+/// A line of the program `compose`: `=` or `.` is in each record line, and in no payload line.
+fn compose_line(o: &Options, line: &[u8], out: &mut String) {
+    if line.len() <= COMPOSE_LINE && line.iter().any(|c| matches!(c, b'=' | b'.')) {
         build::answer(o, line, out);
     } else {
         out.push_str(OTHER);
@@ -70,7 +68,12 @@ pub fn main() {
             "--ies" => mode = ies::answer,
             "--build" => mode = build::answer,
             "--probe" => {
-                mode = probe_line;
+                o.full = true;
+                o.limit = true;
+                o.max_pairs = PROBE_PAIRS;
+            }
+            "--compose" => {
+                mode = compose_line;
                 o.full = true;
                 o.limit = true;
                 o.max_pairs = PROBE_PAIRS;
@@ -102,7 +105,7 @@ pub fn main() {
 fn usage() -> ! {
     eprintln!(
         "usage: oracle [--full] [--bad] [--limit] [--max-pairs N] [--letters LETTERS] \
-         [--header | --ies | --build | --probe | --check | --zero-types]"
+         [--header | --ies | --build | --probe | --compose | --check | --zero-types]"
     );
     std::process::exit(2)
 }

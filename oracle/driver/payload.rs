@@ -39,7 +39,7 @@ fn text(p: &[u8], out: &mut String) {
 /// Refusal 5, which the published Rust doesn't have.
 pub fn within(o: &Options, p: &[u8]) -> Result<(), Refusal> {
     if o.limit && p.len() > 65_535 {
-        return Err(Refusal::TooLong { len: p.len() });
+        return Err(Refusal::InputTooLong { len: p.len() });
     }
     Ok(())
 }

@@ -90,7 +90,7 @@ impl Frame {
     /// Refusal 5.
     fn fits(&self) -> Made<()> {
         match self.slice.len() {
-            n if n > 65_535 => Err(Fault::TooLong(n)),
+            n if n > 65_535 => Err(Fault::InputTooLong(n)),
             _ => Ok(()),
         }
     }
@@ -99,7 +99,7 @@ impl Frame {
     fn written(&self, r: Record, out: &mut String) -> Made<()> {
         let w = r.marshal();
         if w.len() > 65_535 {
-            return Err(Fault::TooWide);
+            return Err(Fault::OutputTooLong);
         }
         if w.len() > self.room {
             return Err(Fault::NoRoom(w.len()));

@@ -12,7 +12,7 @@ pub enum Refusal {
     Flags { byte: u8, rule: u32 },                         // 2
     NodeType { byte: u8 },                                 // 3
     Utf8 { place: usize, bad: usize },                     // 4
-    TooLong { len: usize },                                // 5, only with --limit
+    InputTooLong { len: usize },                                // 5, only with --limit
 }
 
 impl Refusal {
@@ -22,7 +22,7 @@ impl Refusal {
             Refusal::Flags { .. } => 2,
             Refusal::NodeType { .. } => 3,
             Refusal::Utf8 { .. } => 4,
-            Refusal::TooLong { .. } => 5,
+            Refusal::InputTooLong { .. } => 5,
         }
     }
 
@@ -36,7 +36,7 @@ impl Refusal {
             Refusal::NodeType { byte } => format!("err=3 type={byte:02X}"),
             Refusal::Utf8 { place, bad } if with_bad => format!("err=4 place={place} bad={bad}"),
             Refusal::Utf8 { place, .. } => format!("err=4 place={place}"),
-            Refusal::TooLong { len } => format!("err=5 len={len}"),
+            Refusal::InputTooLong { len } => format!("err=5 len={len}"),
         }
     }
 }

@@ -119,7 +119,7 @@ pub enum Why {
         place: usize,
     },
     /// 5: a payload, or the texts of a record, above 65,535 bytes.
-    TooLong {
+    InputTooLong {
         /// The length. Of texts it is that of all together, each entry of a list with its two bytes of length.
         length: usize,
     },
@@ -129,7 +129,7 @@ pub enum Why {
         field: Field,
     },
     /// 7: the written form would pass 65,535 bytes.
-    TooWide,
+    OutputTooLong,
     /// 8: the output is shorter than the written form.
     NoRoom {
         /// The length of the written form.
@@ -161,9 +161,9 @@ impl Refusal {
             2 => Why::Flags { byte: a as u8, rule: b as u8 },
             3 => Why::NodeType { byte: a as u8 },
             4 => Why::NotUtf8 { place: a as usize },
-            5 => Why::TooLong { length: a as usize },
+            5 => Why::InputTooLong { length: a as usize },
             6 => Why::BadText { field: Field(a as u8) },
-            7 => Why::TooWide,
+            7 => Why::OutputTooLong,
             8 => Why::NoRoom { needed: a as usize },
             9 => Why::Unbuilt { rule: a as u8 },
             _ => panic!("the archive answers {number}, which no archive of this layout version does"),
@@ -178,9 +178,9 @@ impl Refusal {
             Why::Flags { .. } => 2,
             Why::NodeType { .. } => 3,
             Why::NotUtf8 { .. } => 4,
-            Why::TooLong { .. } => 5,
+            Why::InputTooLong { .. } => 5,
             Why::BadText { .. } => 6,
-            Why::TooWide => 7,
+            Why::OutputTooLong => 7,
             Why::NoRoom { .. } => 8,
             Why::Unbuilt { .. } => 9,
         }
@@ -193,9 +193,9 @@ impl Refusal {
             Why::Flags { byte, rule } => [byte as u64, rule as u64, 0],
             Why::NodeType { byte } => [byte as u64, 0, 0],
             Why::NotUtf8 { place } => [place as u64, 0, 0],
-            Why::TooLong { length } => [length as u64, 0, 0],
+            Why::InputTooLong { length } => [length as u64, 0, 0],
             Why::BadText { field } => [field.0 as u64, 0, 0],
-            Why::TooWide => [0; 3],
+            Why::OutputTooLong => [0; 3],
             Why::NoRoom { needed } => [needed as u64, 0, 0],
             Why::Unbuilt { rule } => [rule as u64, 0, 0],
         }
@@ -222,9 +222,9 @@ impl fmt::Display for Why {
                 write!(f, "type {byte} is neither 0 (IPv4) nor 1 (IPv6) nor 2 (a name)")
             }
             Why::NotUtf8 { place } => write!(f, "a text isn't UTF-8 from byte {place} of the payload on"),
-            Why::TooLong { length } => write!(f, "{length} bytes are too many, the limit is 65535"),
+            Why::InputTooLong { length } => write!(f, "{length} bytes are too many, the limit is 65535"),
             Why::BadText { field } => write!(f, "the {field} isn't a text that can be written"),
-            Why::TooWide => f.write_str("the written form would have more than 65535 bytes"),
+            Why::OutputTooLong => f.write_str("the written form would have more than 65535 bytes"),
             Why::NoRoom { needed } => {
                 write!(f, "the output is too short, the written form has {}", bytes(needed))
             }

@@ -1,5 +1,5 @@
-//! The recorded lines that speak of places, replayed over the private images: raw lines of `probe`, in which a text may end
-//! past its slice and an output may be short, and the places of texts in payloads that were read.
+//! The recorded lines that speak of places, replayed over the private images: raw lines of `compose`, in which a text may
+//! end past its slice and an output may be short, and the places of texts in payloads that `probe` read.
 
 // The lines here add nothing to a list, which is all that isn't used.
 #[allow(dead_code)]
@@ -13,9 +13,9 @@ use line::{hex, number, numbers, payload, room, slice, taken_apart, value, Token
 const TEXTS: [&str; 5] = ["fd", "url", "dn", "cp", "dnp"];
 const LISTS: [&str; 3] = ["afd", "aurl", "adnp"];
 
-/// The lines of `probe`, and of one's own, that begin so, with their answers.
+/// The lines of both programs, and of one's own, that begin so, with their answers.
 fn lines(beginning: &str) -> Vec<(String, String)> {
-    let all = line::recorded("probe").into_iter().chain(line::more());
+    let all = line::recorded("probe").into_iter().chain(line::recorded("compose")).chain(line::more());
     let known = all.filter(|(_, recorded)| recorded != OTHER);
     let texts = known.map(|(line, recorded)| (String::from_utf8(line).expect("a text"), recorded));
     let found: Vec<_> = texts.filter(|(line, _)| line.starts_with(beginning)).collect();

@@ -158,19 +158,19 @@ fn letters(count: usize) -> String {
 fn a_payload_above_the_limit_is_refused() {
     let name = |count| [&[2], letters(count).as_bytes()].concat();
     assert_eq!(NodeId::unmarshal(&name(65_534)), Ok(NodeId::FQDN(letters(65_534))));
-    assert_eq!(NodeId::unmarshal(&name(65_535)), refused(Kind::NodeId, Why::TooLong { length: 65_536 }));
-    assert_eq!(Fseid::unmarshal(&[0; 65_536]), refused(Kind::Fseid, Why::TooLong { length: 65_536 }));
+    assert_eq!(NodeId::unmarshal(&name(65_535)), refused(Kind::NodeId, Why::InputTooLong { length: 65_536 }));
+    assert_eq!(Fseid::unmarshal(&[0; 65_536]), refused(Kind::Fseid, Why::InputTooLong { length: 65_536 }));
     assert!(Fseid::unmarshal(&[0; 65_535]).is_ok());
 }
 
 #[test]
 fn a_name_above_the_limit_is_refused() {
     assert_eq!(NodeId::FQDN(letters(65_534)).marshal().len(), 65_535);
-    assert_eq!(NodeId::FQDN(letters(65_535)).try_marshal(), refused(Kind::NodeId, Why::TooWide));
+    assert_eq!(NodeId::FQDN(letters(65_535)).try_marshal(), refused(Kind::NodeId, Why::OutputTooLong));
     let long = NodeId::FQDN(letters(65_536));
-    assert_eq!(long.try_marshal(), refused(Kind::NodeId, Why::TooLong { length: 65_536 }));
+    assert_eq!(long.try_marshal(), refused(Kind::NodeId, Why::InputTooLong { length: 65_536 }));
     let mut out = [0xA5; 8];
-    assert_eq!(long.marshal_to(&mut out), refused(Kind::NodeId, Why::TooLong { length: 65_536 }));
+    assert_eq!(long.marshal_to(&mut out), refused(Kind::NodeId, Why::InputTooLong { length: 65_536 }));
     assert_eq!(out, [0xA5; 8]);
 }
 
@@ -191,12 +191,12 @@ fn marshal_panics_where_a_text_is_too_long() {
 fn pfd_contents_above_the_limit_are_refused() {
     let pfd = Kind::PfdContents;
     assert_eq!(PfdContents::url(letters(65_531)).unwrap().marshal().len(), 65_535);
-    assert_eq!(PfdContents::url(letters(65_532)).unwrap().try_marshal(), refused(pfd, Why::TooWide));
-    assert_eq!(PfdContents::url(letters(65_536)), refused(pfd, Why::TooLong { length: 65_536 }));
+    assert_eq!(PfdContents::url(letters(65_532)).unwrap().try_marshal(), refused(pfd, Why::OutputTooLong));
+    assert_eq!(PfdContents::url(letters(65_536)), refused(pfd, Why::InputTooLong { length: 65_536 }));
     let entries = |last| PfdContents::builder().add_additional_url("").add_additional_url(letters(last)).build();
     assert_eq!(entries(65_529).unwrap().marshal().len(), 65_535);
-    assert_eq!(entries(65_531).unwrap().try_marshal(), refused(pfd, Why::TooWide));
-    assert_eq!(entries(65_532), refused(pfd, Why::TooLong { length: 65_536 }));
+    assert_eq!(entries(65_531).unwrap().try_marshal(), refused(pfd, Why::OutputTooLong));
+    assert_eq!(entries(65_532), refused(pfd, Why::InputTooLong { length: 65_536 }));
 }
 
 /// An entry whose length has no two bytes: it isn't cut.
@@ -204,7 +204,7 @@ fn pfd_contents_above_the_limit_are_refused() {
 fn an_entry_above_the_limit_is_refused() {
     let plain = PfdContents::builder().add_additional_url("").build().unwrap();
     let long = PfdContents { additional_url: vec![letters(70_000), letters(3)], ..plain };
-    assert_eq!(long.try_marshal(), refused(Kind::PfdContents, Why::TooLong { length: 70_007 }));
+    assert_eq!(long.try_marshal(), refused(Kind::PfdContents, Why::InputTooLong { length: 70_007 }));
 }
 
 #[test]

@@ -3,7 +3,7 @@ use Prim.Native.Nat.{ℕ}
 use mathlib.Core.Bool.{Bool, true, false}
 use lib.Dec.{leb}
 use Rattle.answer.specs.declared.Answer.{Answer}
-use Rattle.answer.specs.declared.Answer.the-variants.{Done, Short, Flags, NodeType, NotUtf8, TooLong, BadText, TooWide, NoRoom, Unbuilt}
+use Rattle.answer.specs.declared.Answer.the-variants.{Done, Short, Flags, NodeType, NotUtf8, InputTooLong, BadText, OutputTooLong, NoRoom, Unbuilt}
 use Rattle.answer.specs.declared.Values.{Values}
 use Rattle.answer.specs.declared.Written.{Written}
 
@@ -14,9 +14,9 @@ numberOf (Short field expected actual) = 1
 numberOf (Flags byte rule) = 2
 numberOf (NodeType byte) = 3
 numberOf (NotUtf8 place) = 4
-numberOf (TooLong length) = 5
+numberOf (InputTooLong length) = 5
 numberOf (BadText field) = 6
-numberOf TooWide = 7
+numberOf OutputTooLong = 7
 numberOf (NoRoom needed) = 8
 numberOf (Unbuilt rule) = 9
 
@@ -27,9 +27,9 @@ valuesOf (Short field expected actual) = (field, expected, actual)
 valuesOf (Flags byte rule) = (byte, rule, 0)
 valuesOf (NodeType byte) = (byte, 0, 0)
 valuesOf (NotUtf8 place) = (place, 0, 0)
-valuesOf (TooLong length) = (length, 0, 0)
+valuesOf (InputTooLong length) = (length, 0, 0)
 valuesOf (BadText field) = (field, 0, 0)
-valuesOf TooWide = (0, 0, 0)
+valuesOf OutputTooLong = (0, 0, 0)
 valuesOf (NoRoom needed) = (needed, 0, 0)
 valuesOf (Unbuilt rule) = (rule, 0, 0)
 

@@ -25,7 +25,7 @@ pub enum Answer {
         place: usize,
     },
     // 5: a payload or a lent text slice above 65,535 bytes.
-    TooLong {
+    InputTooLong {
         length: usize,
     },
     // 6: a record's text or list that can't exist.
@@ -33,7 +33,7 @@ pub enum Answer {
         field: u8,
     },
     // 7: the written form would pass 65,535 bytes.
-    TooWide,
+    OutputTooLong,
     // 8: the output is shorter than the written form.
     NoRoom {
         needed: usize,
@@ -68,9 +68,9 @@ impl Answer {
             Answer::Flags { byte: _, rule: _ } => 2,
             Answer::NodeType { byte: _ } => 3,
             Answer::NotUtf8 { place: _ } => 4,
-            Answer::TooLong { length: _ } => 5,
+            Answer::InputTooLong { length: _ } => 5,
             Answer::BadText { field: _ } => 6,
-            Answer::TooWide => 7,
+            Answer::OutputTooLong => 7,
             Answer::NoRoom { needed: _ } => 8,
             Answer::Unbuilt { rule: _ } => 9,
         }
@@ -90,9 +90,9 @@ impl Answer {
             Answer::Flags { byte, rule } => Values(byte as usize, rule as usize, 0),
             Answer::NodeType { byte } => Values(byte as usize, 0, 0),
             Answer::NotUtf8 { place } => Values(place, 0, 0),
-            Answer::TooLong { length } => Values(length, 0, 0),
+            Answer::InputTooLong { length } => Values(length, 0, 0),
             Answer::BadText { field } => Values(field as usize, 0, 0),
-            Answer::TooWide => Values(0, 0, 0),
+            Answer::OutputTooLong => Values(0, 0, 0),
             Answer::NoRoom { needed } => Values(needed, 0, 0),
             Answer::Unbuilt { rule } => Values(rule as usize, 0, 0),
         }

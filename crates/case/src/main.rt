@@ -13,32 +13,32 @@ const LONGEST: usize = 8195;
 // What the longest row takes, by the promise of `answer_line`.
 const ROW: usize = 8218;
 
-// Where the output is filled up to, and whether it could be written where that was due.
-struct Filled {
-    done: usize,
+// How much of the output is ready to be written, and whether it could be written where that was due.
+struct Room {
+    ready: usize,
     ok: bool,
 }
 
-// Makes room for a row: writes the output, so that it is filled up to its start, where the longest one doesn't fit behind `done`.
-fn make_room(output: &[u8], done: usize) -> Filled
-    requires { ⌜ (done ≤ length (now output)) × (8218 ≤ length (now output)) ⌝ }
-    ensures { λ r. ⌜ r .done + 8218 ≤ length (now (output .entry)) ⌝ }
+// Makes room for a row: writes the output where the longest one doesn't fit behind what is ready.
+fn make_room(output: &[u8], ready: usize) -> Room
+    requires { ⌜ (ready ≤ length (now output)) × (8218 ≤ length (now output)) ⌝ }
+    ensures { λ r. ⌜ r .ready + 8218 ≤ length (now (output .entry)) ⌝ }
 {
-    if output.len() - done < ROW {
-        let ok = io::write_all(STDOUT_FILENO, &output[..done]);
-        return Filled { done: 0, ok };
+    if output.len() - ready < ROW {
+        let ok = io::write_all(STDOUT_FILENO, &output[..ready]);
+        return Room { ready: 0, ok };
     }
-    Filled { done, ok: true }
+    Room { ready, ok: true }
 }
 
-// Puts what is printed for a line behind `done` bytes of the output, all of it, and answers where it ends.
-fn answer(line: &[u8], output: &mut [u8], done: usize) -> usize
-    requires { ⌜ done + 8218 ≤ length (now output) ⌝ }
-    ensures { λ r. ⌜ r ≡ done + length (printed (now (line .entry))) ⌝ }
-    ensures { λ r. ⌜ now (output .exit) ≡ put (now (output .entry)) done (printed (now (line .entry))) ⌝ }
+// Puts what is printed for a line behind what is ready of the output, all of it, and answers where it ends.
+fn answer(line: &[u8], output: &mut [u8], ready: usize) -> usize
+    requires { ⌜ ready + 8218 ≤ length (now output) ⌝ }
+    ensures { λ r. ⌜ r ≡ ready + length (printed (now (line .entry))) ⌝ }
+    ensures { λ r. ⌜ now (output .exit) ≡ put (now (output .entry)) ready (printed (now (line .entry))) ⌝ }
     ensures { λ r. ⌜ r ≤ length (now (output .entry)) ⌝ }
 {
-    done + case_line::answer_line(line, &mut output[done..])
+    ready + case_line::answer_line(line, &mut output[ready..])
 }
 
 // Where the first line that has no end starts, and whether all answers could be written.
@@ -54,18 +54,18 @@ fn answer_lines(input: &[u8], searched: usize, output: &mut [u8]) -> Lines
 {
     let n = input.len();
     let mut start = 0;
-    let mut done = 0;
+    let mut ready = 0;
     let mut at = bytes::scan::find(input, searched, n, b'\n');
     while at < n {
-        let room = make_room(output, done);
+        let room = make_room(output, ready);
         if !room.ok {
             return Lines { start, ok: false };
         }
-        done = answer(&input[start..at], output, room.done);
+        ready = answer(&input[start..at], output, room.ready);
         start = at + 1;
         at = bytes::scan::find(input, start, n, b'\n');
     }
-    let ok = io::write_all(STDOUT_FILENO, &output[..done]);
+    let ok = io::write_all(STDOUT_FILENO, &output[..ready]);
     Lines { start, ok }
 }
 
@@ -76,7 +76,7 @@ fn least(a: usize, b: usize) -> usize
 }
 
 // Moves the unfinished line to the front of the input, as much of it as counts, and answers how much that is.
-fn keep(input: &mut [u8], start: usize, end: usize) -> usize
+fn move_pending(input: &mut [u8], start: usize, end: usize) -> usize
     requires { ⌜ (start ≤ end) × (end ≤ length (now input)) ⌝ }
     ensures { λ r. ⌜ r ≤ 8195 ⌝ }
 {
@@ -89,80 +89,83 @@ struct Got {
     failed: bool,
 }
 
-// Reads once behind what was kept.
-fn read_behind(input: &mut [u8], kept: usize) -> Got
-    requires { ⌜ kept ≤ length (now input) ⌝ }
-    ensures { λ r. ⌜ (kept ≤ r .end) × (r .end ≤ length (now (input .entry))) ⌝ }
+// Reads once behind the bytes of an unfinished line.
+fn read_behind(input: &mut [u8], pending: usize) -> Got
+    requires { ⌜ pending ≤ length (now input) ⌝ }
+    ensures { λ r. ⌜ (pending ≤ r .end) × (r .end ≤ length (now (input .entry))) ⌝ }
 {
-    let got = libc::read(STDIN_FILENO, &mut input[kept..]);
-    let n = io::count(got, &input[kept..]);
+    let got = libc::read(STDIN_FILENO, &mut input[pending..]);
+    let n = io::count(got, &input[pending..]);
     Got {
-        end: kept + n,
+        end: pending + n,
         failed: got < 0,
     }
 }
 
 // How much of an unfinished line stands at the front of the input, and whether there may be more to read.
 struct Rest {
-    kept: usize,
+    pending: usize,
     more: bool,
 }
 
-// Reads once, and answers the lines that have an end. Where the read fails, or the answers can't be written, nothing is kept.
-fn take_turn(input: &mut [u8], kept: usize, output: &mut [u8]) -> Rest
-    requires { ⌜ (kept ≤ 8195) × (length (now input) ≡ 65536) × (length (now output) ≡ 65536) ⌝ }
-    ensures { λ r. ⌜ r .kept ≤ 8195 ⌝ }
+// Reads once, and answers the lines that have an end. Where the read fails, or the answers can't be written, nothing is pending.
+fn take_turn(input: &mut [u8], pending: usize, output: &mut [u8]) -> Rest
+    requires { ⌜ (pending ≤ 8195) × (length (now input) ≡ 65536) × (length (now output) ≡ 65536) ⌝ }
+    ensures { λ r. ⌜ r .pending ≤ 8195 ⌝ }
 {
-    let got = read_behind(input, kept);
+    let got = read_behind(input, pending);
     if got.failed {
         return Rest {
-            kept: 0,
+            pending: 0,
             more: false,
         };
     }
     let end = got.end;
-    if end == kept {
-        return Rest { kept, more: false };
+    if end == pending {
+        return Rest {
+            pending,
+            more: false,
+        };
     }
-    let lines = answer_lines(&input[..end], kept, output);
+    let lines = answer_lines(&input[..end], pending, output);
     if !lines.ok {
         return Rest {
-            kept: 0,
+            pending: 0,
             more: false,
         };
     }
     Rest {
-        kept: keep(input, lines.start, end),
+        pending: move_pending(input, lines.start, end),
         more: true,
     }
 }
 
-// Answers the lines of the input, and says how much of an unfinished last one stands at the front. A proved loop has to end, and
-// nothing says that an input does, so the turns are counted down from a number that no run uses up.
+// Answers the lines of the input, and returns how many bytes of an unfinished last one stand at the front. A proved loop has to
+// end, and nothing says that an input does, so the turns are counted down from a number that no run uses up.
 fn answer_input(input: &mut [u8], output: &mut [u8]) -> usize
     requires { ⌜ (length (now input) ≡ 65536) × (length (now output) ≡ 65536) ⌝ }
     ensures { λ r. ⌜ r ≤ 8195 ⌝ }
 {
-    let mut kept = 0;
+    let mut pending = 0;
     let mut turns = u64::MAX;
     while turns > 0 {
         turns -= 1;
-        let rest = take_turn(input, kept, output);
-        kept = rest.kept;
+        let rest = take_turn(input, pending, output);
+        pending = rest.pending;
         if !rest.more {
-            return kept;
+            return pending;
         }
     }
-    kept
+    pending
 }
 
 fn main() {
     let mut input = [0u8; 65536];
     let mut output = [0u8; 65536];
-    let kept = answer_input(&mut input, &mut output);
-    if kept == 0 {
+    let pending = answer_input(&mut input, &mut output);
+    if pending == 0 {
         return;
     }
-    let n = answer(&input[..kept], &mut output, 0);
+    let n = answer(&input[..pending], &mut output, 0);
     io::write_all(STDOUT_FILENO, &output[..n]);
 }

@@ -2,8 +2,8 @@
 use mathlib.Core.Path.{_≡_, refl}
 use mathlib.Core.List.{[], _∷_}
 use mathlib.Core.Option.{bind}
-use Rattle.octets.specs.Octets.{under, flagByte, behind, bytesOf, ipv4Of, ipv6Of, presence, bytesIf}
-use Rattle.kind.specs.Layout.{walk, judged, outcome}
+use Rattle.octets.specs.Octets.{ifSet, flagByte, behind, bigEndianBytes, ipv4Of, ipv6Of, presence, bytesIf}
+use Rattle.kind.specs.Layout.{walk, unlessBroken, outcome}
 use Rattle.fseid.specs.Fseid.{meaning, wire, recordOf, refused, found, read}
 use Rattle.hex.specs.Hex.{digit, spelled, worth, led, pairs, tens, decimal}
 use Rattle.case_line.specs.Line.{rowOf, rowFor, allPairs, payload, lineRow, hexOrDash, shown, printed}
@@ -16,7 +16,7 @@ empty-payload = refl
 -- "S 000000000000000005fF": nine bytes with no address, and a tenth that isn't used, "0 9 000000000000000005"
 no-address : printed (0x53 ∷ 0x20 ∷ 0x30 ∷ 0x30 ∷ 0x30 ∷ 0x30 ∷ 0x30 ∷ 0x30 ∷ 0x30 ∷ 0x30 ∷ 0x30 ∷ 0x30 ∷ 0x30 ∷ 0x30 ∷ 0x30 ∷ 0x30 ∷ 0x30 ∷ 0x30 ∷ 0x30 ∷ 0x35 ∷ 0x66 ∷ 0x46 ∷ [])
     ≡ 0x30 ∷ 0x20 ∷ 0x39 ∷ 0x20 ∷ 0x30 ∷ 0x30 ∷ 0x30 ∷ 0x30 ∷ 0x30 ∷ 0x30 ∷ 0x30 ∷ 0x30 ∷ 0x30 ∷ 0x30 ∷ 0x30 ∷ 0x30 ∷ 0x30 ∷ 0x30 ∷ 0x30 ∷ 0x30 ∷ 0x30 ∷ 0x35 ∷ 0x0A ∷ []
-unfolding printed shown lineRow bind payload allPairs pairs led worth rowFor rowOf read found outcome judged walk recordOf meaning wire under flagByte behind bytesOf ipv4Of ipv6Of presence bytesIf decimal tens digit hexOrDash spelled
+unfolding printed shown lineRow bind payload allPairs pairs led worth rowFor rowOf read found outcome unlessBroken walk recordOf meaning wire ifSet flagByte behind bigEndianBytes ipv4Of ipv6Of presence bytesIf decimal tens digit hexOrDash spelled
 no-address = refl
 
 -- "", "S", "S ", "S  00", "S 000", "s 00", "S 00" and a carriage return: other lines

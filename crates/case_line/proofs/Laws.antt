@@ -10,13 +10,13 @@ use lib.Seq.{take-all}
 use lib.Dec.{leb, eqb}
 use borrow.Author.Tests.{le-leb, lt-leb, eq-eqb, ne-eqb, eqb-true, leb-true}
 use Rattle.answer.specs.declared.Answer.{Answer}
-use Rattle.answer.specs.declared.Answer.the-variants.{Done, Short, Flags, NodeType, NotUtf8, TooLong, BadText, TooWide, NoRoom, Unbuilt}
 use Rattle.answer.specs.declared.Written.{Written}
 use Rattle.answer.specs.Paper.{numberOf, wrote, written}
-use Rattle.octets.specs.Octets.{pick, under, Bytes, put}
-use Rattle.octets.proofs.Laws.{under-le, put-not, put-behind, put-start}
+use Rattle.octets.specs.Octets.{pick, ifSet, Bytes, put}
+use Rattle.octets.proofs.Laws.{ifSet-le, put-not, put-behind, put-start}
 use Rattle.kind.specs.Kind.{Reads, Kind}
 use Rattle.kind.specs.Write.{answered, stored}
+use Rattle.kind.proofs.Cases.{number-is-done}
 use Rattle.hex.specs.Hex.{spelled, pairs, decimal}
 use Rattle.hex.proofs.Laws.{length-spelled, decimal-most}
 use Rattle.case_line.specs.declared.LineRow.{LineRow}
@@ -62,8 +62,8 @@ unfolding hexOrDash
 in-hex [] h = absurd (h refl)
 in-hex (b ∷ bs) h = refl
 
-pub length-hexOrDash : (bs : List ℕ) → length (hexOrDash bs) ≡ 2 * length bs + under (eqb (length bs) 0) 1
-unfolding hexOrDash under
+pub length-hexOrDash : (bs : List ℕ) → length (hexOrDash bs) ≡ 2 * length bs + ifSet (eqb (length bs) 0) 1
+unfolding hexOrDash ifSet
 length-hexOrDash [] = refl
 length-hexOrDash (b ∷ bs) = rw (ne-eqb (suc (length bs)) 0 (λ (q : suc (length bs) ≡ 0). omega arith)) (omega (arith, length-spelled (b ∷ bs)))
 
@@ -87,19 +87,6 @@ module _ (number used : ℕ) (bs : List ℕ) where
   three-parts = simp append-assoc
 
 -- ---- the row of a kind
--- only the number 0 is a read that is done
-done : (a : Answer) → numberOf a ≡ 0 → a ≡ Done
-done Done e = refl
-done (Short field expected actual) e = absurd (omega arith)
-done (Flags byte rule) e = absurd (omega arith)
-done (NodeType byte) e = absurd (omega arith)
-done (NotUtf8 place) e = absurd (omega arith)
-done (TooLong length) e = absurd (omega arith)
-done (BadText field) e = absurd (omega arith)
-done TooWide e = absurd (omega arith)
-done (NoRoom needed) e = absurd (omega arith)
-done (Unbuilt rule) e = absurd (omega arith)
-
 -- no write answers a length past its output
 answered-fits : (o : Option Answer) (bs : List ℕ) (m : ℕ) → answered o bs m .len ≤ m
 unfolding answered
@@ -128,33 +115,35 @@ module _ (k : Kind) (same : (s : List ℕ) → length (k .clear s) ≡ length s)
       → d′ ≡ stored refused d (k .wire v)
       → r ≡ redone a used (w .len)
       → (rowIn r d′ ≡ some (rowOf (k .reader) (k .wire) s)) × (r .len ≤ length d)
-  unfolding rowIn rowOf under answered stored
+  unfolding rowIn rowOf ifSet answered stored
   redo s d d′ a used v refused w r b h ea eu ev able ew ed er = (
     rw (er, go (eqb (numberOf a) 0) refl, ea, eu, ev),
-    omega (arith, ap (λ (r : LineRow). r .len) er, under-le (eqb (numberOf a) 0) (w .len), ap (λ (w : Written). w .len) ew, answered-fits refused (k .wire v) (length d)),
+    omega (arith, ap (λ (r : LineRow). r .len) er, ifSet-le (eqb (numberOf a) 0) (w .len), ap (λ (w : Written). w .len) ew, answered-fits refused (k .wire v) (length d)),
   )
     where
-      go : (t : Bool) → eqb (numberOf a) 0 ≡ t → take (under t (w .len)) d′ ≡ pick t (k .wire v) []
+      go : (t : Bool) → eqb (numberOf a) 0 ≡ t → take (ifSet t (w .len)) d′ ≡ pick t (k .wire v) []
       go false q = refl
       go true q =
-          let reads : Reads (k .reader) s v used = record { bytes = b; done = sym ea ∙ done a (eqb-true (numberOf a) 0 q); value = sym ev; used = sym eu } in
+          let reads : Reads (k .reader) s v used = record { bytes = b; done = sym ea ∙ number-is-done a (eqb-true (numberOf a) 0 q); value = sym ev; used = sym eu } in
           let fits : length (k .wire v) ≤ length d = omega (arith, no-longer reads) in
           let l : w .len ≡ length (k .wire v) = rw (ew, able reads, le-leb (length (k .wire v)) (length d) fits) in
           rw (l, ed, able reads) (put-start d (k .wire v) fits)
 
-  -- the same of a kind that no such test refuses
-  pub redo-fixed : (s d d′ : List ℕ) (a : Answer) (used : ℕ) (v : k .Value) (w : Written) (r : LineRow)
+  -- the same of what the kind's own calls gave: x is what was read of s, answer, used and value are its parts; no test that comes before room refuses
+  pub redo-fixed : {R : Type 0} (answer : R → Answer) (used : R → ℕ) (value : R → k .Value) (s d d′ : List ℕ) (x y : R) (w : Written) (r : LineRow)
+      → x ≡ y
+      → answer y ≡ k .reader .answer s
+      → used y ≡ k .reader .used s
+      → value y ≡ k .reader .value s
       → Bytes s
       → length s ≤ length d
-      → a ≡ k .reader .answer s
-      → used ≡ k .reader .used s
-      → v ≡ k .reader .value s
-      → w ≡ written (length (k .wire v)) (length d)
-      → d′ ≡ put d 0 (k .wire v)
-      → r ≡ redone a used (w .len)
+      → w ≡ written (length (k .wire (value x))) (length d)
+      → d′ ≡ put d 0 (k .wire (value x))
+      → r ≡ redone (answer x) (used x) (w .len)
       → (rowIn r d′ ≡ some (rowOf (k .reader) (k .wire) s)) × (r .len ≤ length d)
   unfolding answered stored
-  redo-fixed s d d′ a used v w r b h ea eu ev ew ed er = redo s d d′ a used v none w r b h ea eu ev (λ reads. refl) ew ed er
+  redo-fixed answer used value s d d′ x y w r e ea eu ev b h ew ed er =
+      redo s d d′ (answer x) (used x) (value x) none w r b h (ap answer e ∙ ea) (ap used e ∙ eu) (ap value e ∙ ev) (λ reads. refl) ew ed er
 
 -- a row that isn't there
 pub no-row : (r : LineRow) (bs : List ℕ) (o : Option Row) → rowIn r bs ≡ o → r .known ≡ false → none ≡ o

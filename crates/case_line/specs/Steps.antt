@@ -7,7 +7,7 @@ use lib.Dec.{eqb}
 use lib.ListN.{take}
 use Rattle.answer.specs.declared.Answer.{Answer}
 use Rattle.answer.specs.Paper.{numberOf}
-use Rattle.octets.specs.Octets.{pick, under}
+use Rattle.octets.specs.Octets.{pick, ifSet}
 use Rattle.case_line.specs.declared.LineRow.{LineRow}
 use Rattle.case_line.specs.Line.{Row, row}
 
@@ -17,4 +17,4 @@ rowIn r bytes = pick (r .known) (some (row (r .number) (r .used) (take (r .len) 
 
 -- the row of a payload that was read with this answer and used count, and whose record was written again in so many bytes
 abbrev pub redone : Answer → ℕ → ℕ → LineRow
-redone a used len = record { known = true; number = numberOf a; used = used; len = under (eqb (numberOf a) 0) len }
+redone a used len = record { known = true; number = numberOf a; used = used; len = ifSet (eqb (numberOf a) 0) len }

@@ -60,7 +60,7 @@ fn put_row(out: &mut [u8], number: u8, used: usize, bs: &[u8]) -> usize
     }
     let used_at = hex::decimal_len(number as u64) + 1;
     let written_at = used_at + hex::decimal_len(used as u64) + 1;
-    let dash = octets::under(bs.len() == 0, 1);
+    let dash = octets::if_set(bs.len() == 0, 1);
     let end = written_at + 2 * bs.len() + dash + 1;
     if out.len() < end {
         return 0;
@@ -97,7 +97,7 @@ fn row_of(answer: Answer, used: usize, len: usize) -> LineRow
         known: true,
         number,
         used,
-        len: octets::under(number == 0, len),
+        len: octets::if_set(number == 0, len),
     }
 }
 

@@ -1,3 +1,4 @@
 pub mod Laws
 pub mod OfKind
 pub mod Ready
+pub mod Returns

@@ -9,7 +9,7 @@ use Rattle.answer.specs.declared.Answer.the-variants.{Done}
 use Rattle.types.specs.declared.Teid.{Teid}
 use Rattle.octets.specs.declared.MaybeIpv4.{MaybeIpv4}
 use Rattle.octets.specs.declared.MaybeIpv6.{MaybeIpv6}
-use Rattle.octets.specs.Octets.{pick, bit, under, flagByte, field, bigEndian, bytesOf, bytesIf, numberIf, presence, ipv4Of, ipv6Of, ipv4Meaning, ipv6Meaning}
+use Rattle.octets.specs.Octets.{pick, bit, ifSet, flagByte, field, bigEndian, bigEndianBytes, bytesIf, numberIf, presence, ipv4Of, ipv6Of, ipv4Meaning, ipv6Meaning}
 use Rattle.kind.specs.Layout.{Wanted, wanted, Layout, Outcome, accepts, refuses, outcome}
 use Rattle.kind.specs.Kind.{Reader}
 use Rattle.f_teid.specs.declared.Fteid.{Fteid}
@@ -41,7 +41,7 @@ meaning r =
 
 -- what is written behind the flags: with CH the choose ID if CHID, without CH the TEID and the addresses that are given
 unfoldable pub tail : Value → List ℕ
-tail v = pick (v .ch) (numberIf 1 (presence (v .chid) (v .chooseId))) (bytesOf 4 (v .teid) ++ (bytesIf (v .ipv4) ++ bytesIf (v .ipv6)))
+tail v = pick (v .ch) (numberIf 1 (presence (v .chid) (v .chooseId))) (bigEndianBytes 4 (v .teid) ++ (bytesIf (v .ipv4) ++ bytesIf (v .ipv6)))
 
 -- the written form: flags (bit 0 V4, 1 V6, 2 CH, 3 CHID, which is written only with CH), and the tail
 unfoldable pub wire : Value → List ℕ
@@ -53,14 +53,18 @@ fields b = pick (bit 2 b) (wanted 5 (bit 3 b) 1 ∷ []) (wanted 0 true 4 ∷ wan
 
 -- rule 4: CHID without CH
 abbrev pub rule : ℕ → ℕ
-rule b = pick (bit 2 b) 0 (under (bit 3 b) 4)
+rule b = pick (bit 2 b) 0 (ifSet (bit 3 b) 4)
 
 abbrev pub layout : Layout
 layout = record { head = 1; rule = rule; fields = fields }
 
+-- how long the written form of a value that was read is at most, with a TEID and both addresses; at least it is as long as the head
+abbrev pub maxLen : ℕ
+maxLen = 1 + 4 + 4 + 16
+
 -- bits 4 to 7 of the flags are ignored: four bits of the first byte are kept
-abbrev pub kept : List ℕ
-kept = 4 ∷ []
+abbrev pub keptBits : List ℕ
+keptBits = 4 ∷ []
 
 -- no TEID, addresses that are given, and absent ones
 abbrev pub noTeid : Teid
@@ -79,8 +83,8 @@ abbrev pub noIpv6 : MaybeIpv6
 noIpv6 = record { given = false; octets = replicate 16 0 }
 
 -- the record of a payload with CH: no TEID and no addresses
-unfoldable pub chosen : List ℕ → Fteid
-chosen s =
+unfoldable pub chosenRecord : List ℕ → Fteid
+chosenRecord s =
     let b = getD s 0 0 in
     record {
       v4 = bit 0 b;
@@ -90,12 +94,12 @@ chosen s =
       teid = noTeid;
       «ipv4_address» = noIpv4;
       «ipv6_address» = noIpv6;
-      «choose_id» = bigEndian (field s 1 (under (bit 3 b) 1));
+      «choose_id» = bigEndian (field s 1 (ifSet (bit 3 b) 1));
     }
 
 -- the record of a payload without CH, and so without CHID: no choose ID
-unfoldable pub concrete : List ℕ → Fteid
-concrete s =
+unfoldable pub concreteRecord : List ℕ → Fteid
+concreteRecord s =
     let b = getD s 0 0 in
     record {
       v4 = bit 0 b;
@@ -103,14 +107,14 @@ concrete s =
       ch = bit 2 b;
       chid = bit 3 b;
       teid = record { 0 = bigEndian (field s 1 4) };
-      «ipv4_address» = ipv4Of (field s 5 (under (bit 0 b) 4));
-      «ipv6_address» = ipv6Of (field s (5 + under (bit 0 b) 4) (under (bit 1 b) 16));
+      «ipv4_address» = ipv4Of (field s 5 (ifSet (bit 0 b) 4));
+      «ipv6_address» = ipv6Of (field s (5 + ifSet (bit 0 b) 4) (ifSet (bit 1 b) 16));
       «choose_id» = 0;
     }
 
 -- the record of a payload that has all the fields
 abbrev pub recordOf : List ℕ → Fteid
-recordOf s = pick (bit 2 (getD s 0 0)) (chosen s) (concrete s)
+recordOf s = pick (bit 2 (getD s 0 0)) (chosenRecord s) (concreteRecord s)
 
 -- a new record: CH, CHID and the choose ID off
 abbrev pub made : Bool → Bool → Teid → MaybeIpv4 → MaybeIpv6 → Fteid

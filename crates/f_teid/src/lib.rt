@@ -12,7 +12,7 @@ ghost use Prim.Native.Nat.{_≤_, _<_};
 ghost use lib.ListN.{length, getD};
 ghost use Rattle.octets.specs.Octets.{pick, bit, put};
 ghost use Rattle.answer.specs.Paper.{written};
-ghost use Rattle.f_teid.specs.Fteid.{meaning, wire, read, refused, empty, given4, given6, noTeid, noIpv4, noIpv6, made, madeWithChoose, ofChoice};
+ghost use Rattle.f_teid.specs.Fteid.{meaning, wire, maxLen, read, refused, empty, given4, given6, noTeid, noIpv4, noIpv6, made, madeWithChoose, ofChoice};
 ghost use Rattle.f_teid.specs.Builder.{fresh, withTeid, withAddresses, withChoices, withChooseId, broken, built};
 
 pub struct Fteid {
@@ -49,8 +49,11 @@ pub struct FteidBuilt {
     pub record: Fteid,
 }
 
+// Where the TEID ends, without CH.
+const TEID_END: usize = Fteid::MIN_LEN + 4;
+
 // A byte where a flag is set, 0 where it isn't.
-fn byte_under(flag: bool, b: u8) -> u8
+fn byte_if_set(flag: bool, b: u8) -> u8
     ensures { λ r. ⌜ r ≡ pick flag b 0 ⌝ }
 {
     if flag { b } else { 0 }
@@ -104,7 +107,7 @@ fn read_chosen(payload: &[u8]) -> FteidRead
     let v4 = octets::bit(flags, 0);
     let v6 = octets::bit(flags, 1);
     let chid = octets::bit(flags, 3);
-    let end = 1 + octets::under(chid, 1);
+    let end = 1 + octets::if_set(chid, 1);
     if n < end {
         return refused(Answer::Short {
             field: 5,
@@ -140,17 +143,17 @@ fn read_concrete(payload: &[u8]) -> FteidRead
     ensures { λ r. ⌜ r ≡ read (now (payload .entry)) ⌝ }
 {
     let n = payload.len();
-    if n < 5 {
+    if n < TEID_END {
         return refused(Answer::Short {
             field: 0,
-            expected: 5,
+            expected: TEID_END,
             actual: n,
         });
     }
     let flags = payload[0];
     let v4 = octets::bit(flags, 0);
     let v6 = octets::bit(flags, 1);
-    let end4 = 5 + octets::under(v4, 4);
+    let end4 = TEID_END + octets::if_set(v4, 4);
     if n < end4 {
         return refused(Answer::Short {
             field: 1,
@@ -158,7 +161,7 @@ fn read_concrete(payload: &[u8]) -> FteidRead
             actual: n,
         });
     }
-    let end6 = end4 + octets::under(v6, 16);
+    let end6 = end4 + octets::if_set(v6, 16);
     if n < end6 {
         return refused(Answer::Short {
             field: 2,
@@ -166,8 +169,8 @@ fn read_concrete(payload: &[u8]) -> FteidRead
             actual: n,
         });
     }
-    let teid = octets::number(&payload[1..5]) as u32;
-    let ipv4_address = MaybeIpv4::of(&payload[5..end4]);
+    let teid = octets::number(&payload[1..TEID_END]) as u32;
+    let ipv4_address = MaybeIpv4::of(&payload[TEID_END..end4]);
     let ipv6_address = MaybeIpv6::of(&payload[end4..end6]);
     FteidRead {
         answer: Answer::Done,
@@ -191,7 +194,7 @@ fn write_chosen(r: Fteid, out: &mut [u8]) -> Written
     ensures { λ w. ⌜ w ≡ written (length (wire (meaning r))) (length (now (out .entry))) ⌝ }
     ensures { λ w. ⌜ now (out .exit) ≡ put (now (out .entry)) 0 (wire (meaning r)) ⌝ }
 {
-    let end = 1 + octets::under(r.chid, 1);
+    let end = 1 + octets::if_set(r.chid, 1);
     if out.len() < end {
         return Written {
             answer: Answer::NoRoom { needed: end },
@@ -215,8 +218,8 @@ fn write_concrete(r: Fteid, out: &mut [u8]) -> Written
 {
     let ipv4_address = r.ipv4_address;
     let ipv6_address = r.ipv6_address;
-    let end4 = 5 + octets::under(ipv4_address.given, 4);
-    let end6 = end4 + octets::under(ipv6_address.given, 16);
+    let end4 = TEID_END + octets::if_set(ipv4_address.given, 4);
+    let end6 = end4 + octets::if_set(ipv6_address.given, 16);
     if out.len() < end6 {
         return Written {
             answer: Answer::NoRoom { needed: end6 },
@@ -226,7 +229,7 @@ fn write_concrete(r: Fteid, out: &mut [u8]) -> Written
     let flags = octets::flag_byte(r.v4, r.v6, false, false, false, false, false, false);
     octets::put_byte(out, 0, flags);
     octets::put_number(out, 1, 4, r.teid.0 as u64);
-    octets::put_ipv4(out, 5, ipv4_address);
+    octets::put_ipv4(out, TEID_END, ipv4_address);
     octets::put_ipv6(out, end4, ipv6_address);
     Written {
         answer: Answer::Done,
@@ -239,6 +242,13 @@ impl Fteid {
     pub const MIN_LEN: usize = 1;
 
     pub const MAX_LEN: usize = 25;
+
+    // The second as a promise: a constant has none. `unmarshal` promises the first.
+    pub fn max_len() -> usize
+        ensures { λ r. ⌜ r ≡ maxLen ⌝ }
+    {
+        Fteid::MAX_LEN
+    }
 
     // CH, CHID and the choose ID are off: the last argument doesn't count.
     pub fn new(
@@ -289,7 +299,7 @@ impl Fteid {
             teid: Teid(0),
             ipv4_address,
             ipv6_address,
-            choose_id: byte_under(chid, choose_id),
+            choose_id: byte_if_set(chid, choose_id),
         }
     }
 
@@ -298,7 +308,7 @@ impl Fteid {
     {
         let n = payload.len();
         if 65535 < n {
-            return refused(Answer::TooLong { length: n });
+            return refused(Answer::InputTooLong { length: n });
         }
         if n < Fteid::MIN_LEN {
             return refused(Answer::Short {
@@ -557,7 +567,7 @@ impl FteidBuilder {
                 teid,
                 ipv4_address,
                 ipv6_address,
-                choose_id: byte_under(self.choose_id.given, self.choose_id.value),
+                choose_id: byte_if_set(self.choose_id.given, self.choose_id.value),
             },
         }
     }

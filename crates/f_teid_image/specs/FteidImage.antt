@@ -1,62 +1,79 @@
--- The F-TEID in a record image of 71 bytes: the head, then at
---   40  flags: bit 0 V4, 1 V6, 2 CH, 3 CHID
---   41  fields given: bit 0 IPv4, 1 IPv6
---   42  TEID, a number whose low 32 bits count
---   50  choose ID, a byte
---   51  IPv4
---   55  IPv6
-use Prim.Native.Nat.{ℕ, _%_}
+-- The F-TEID in a record image: the head, then the fields, each at its place.
+use Prim.Native.Nat.{ℕ, _+_, _%_}
 use mathlib.Core.Bool.{Bool}
 use mathlib.Core.List.{List, [], _∷_, _++_}
-use lib.ListN.{length, getD, replicate}
+use lib.ListN.{length, getD}
 use Rattle.answer.specs.declared.Written.{Written}
 use Rattle.answer.specs.Paper.{written}
-use Rattle.octets.specs.Octets.{bit, under, flagByte, field, ipv4Of, ipv6Of, put}
+use Rattle.octets.specs.Octets.{bit, ifSet, flagByte, field, ipv4Of, ipv6Of, put}
 use Rattle.f_teid.specs.declared.Fteid.{Fteid}
 use Rattle.f_teid.specs.declared.FteidRead.{FteidRead}
 use Rattle.f_teid.specs.Fteid.{meaning, wire}
-use Rattle.image.specs.Image.{low, numberAt, filled, head}
+use Rattle.image.specs.Image.{littleEndianBytes, numberAt, bytesOrZeros, head, headSize}
+
+-- flags, a byte: bit 0 V4, 1 V6, 2 CH, 3 CHID
+abbrev pub flagsAt : ℕ
+flagsAt = headSize
+
+-- fields given, a byte: bit 0 IPv4, 1 IPv6
+abbrev pub givenAt : ℕ
+givenAt = flagsAt + 1
+
+-- the TEID, a number whose low 32 bits count
+abbrev pub teidAt : ℕ
+teidAt = givenAt + 1
+
+-- the choose ID, a byte
+abbrev pub chooseIdAt : ℕ
+chooseIdAt = teidAt + 8
+
+-- the addresses
+abbrev pub ipv4At : ℕ
+ipv4At = chooseIdAt + 1
+
+abbrev pub ipv6At : ℕ
+ipv6At = ipv4At + 4
+
+-- how long an image is
+abbrev pub size : ℕ
+size = ipv6At + 16
 
 -- the bytes of a record
 unfoldable pub recordImage : Fteid → List ℕ
 recordImage r =
     flagByte (r .v4 ∷ r .v6 ∷ r .ch ∷ r .chid ∷ [])
     ∷ flagByte (r .«ipv4_address» .given ∷ r .«ipv6_address» .given ∷ [])
-    ∷ (low 8 (r .teid .0)
+    ∷ (littleEndianBytes 8 (r .teid .0)
     ++ (r .«choose_id»
-    ∷ (filled 4 (r .«ipv4_address» .given) (r .«ipv4_address» .octets)
-    ++ filled 16 (r .«ipv6_address» .given) (r .«ipv6_address» .octets))))
+    ∷ (bytesOrZeros 4 (r .«ipv4_address» .given) (r .«ipv4_address» .octets)
+    ++ bytesOrZeros 16 (r .«ipv6_address» .given) (r .«ipv6_address» .octets))))
 
 -- the image of what a read answered
 abbrev pub imageOf : FteidRead → List ℕ
 imageOf r = head (r .answer) (r .used) ++ recordImage (r .«record»)
 
--- the image of a refusal: its number and values, then the used count and the empty record, which are zeros
-unfoldable pub refusal : (number v0 v1 v2 : ℕ) → List ℕ
-refusal number v0 v1 v2 = low 8 number ++ (low 8 v0 ++ (low 8 v1 ++ (low 8 v2 ++ replicate 39 0)))
-
 -- the record that stands in an image
 unfoldable pub recordAt : List ℕ → Fteid
 recordAt m =
-    let flag : ℕ → Bool = λ k. bit k (getD m 40 0) in
-    let given : ℕ → Bool = λ k. bit k (getD m 41 0) in
+    let flag : ℕ → Bool = λ k. bit k (getD m flagsAt 0) in
+    let given : ℕ → Bool = λ k. bit k (getD m givenAt 0) in
     record {
       v4 = flag 0;
       v6 = flag 1;
       ch = flag 2;
       chid = flag 3;
-      teid = record { 0 = numberAt m 42 % 4294967296 };
-      «ipv4_address» = ipv4Of (field m 51 (under (given 0) 4));
-      «ipv6_address» = ipv6Of (field m 55 (under (given 1) 16));
-      «choose_id» = getD m 50 0;
+      teid = record { 0 = numberAt m teidAt % 4294967296 };
+      «ipv4_address» = ipv4Of (field m ipv4At (ifSet (given 0) 4));
+      «ipv6_address» = ipv6Of (field m ipv6At (ifSet (given 1) 16));
+      «choose_id» = getD m chooseIdAt 0;
     }
 
 -- what writing that record answers, and the output that it leaves
-abbrev pub form : List ℕ → List ℕ
-form m = wire (meaning (recordAt m))
+abbrev pub writtenForm : List ℕ → List ℕ
+writtenForm m = wire (meaning (recordAt m))
 
 unfoldable pub writes : List ℕ → List ℕ → Written
-writes m out = written (length (form m)) (length out)
+writes m out = written (length (writtenForm m)) (length out)
 
 unfoldable pub stores : List ℕ → List ℕ → List ℕ
-stores m out = put out 0 (form m)
+stores m out = put out 0 (writtenForm m)

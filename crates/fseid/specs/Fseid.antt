@@ -9,7 +9,7 @@ use Rattle.answer.specs.declared.Answer.the-variants.{Done}
 use Rattle.types.specs.declared.Seid.{Seid}
 use Rattle.octets.specs.declared.MaybeIpv4.{MaybeIpv4}
 use Rattle.octets.specs.declared.MaybeIpv6.{MaybeIpv6}
-use Rattle.octets.specs.Octets.{bit, under, flagByte, field, bigEndian, bytesOf, bytesIf, ipv4Of, ipv6Of, ipv4Meaning, ipv6Meaning}
+use Rattle.octets.specs.Octets.{bit, ifSet, flagByte, field, bigEndian, bigEndianBytes, bytesIf, ipv4Of, ipv6Of, ipv4Meaning, ipv6Meaning}
 use Rattle.kind.specs.Layout.{wanted, Layout, Outcome, accepts, refuses, outcome}
 use Rattle.kind.specs.Kind.{Reader}
 use Rattle.fseid.specs.declared.Fseid.{Fseid}
@@ -28,15 +28,19 @@ meaning r = record { v4 = r .v4; v6 = r .v6; seid = r .seid .0; ipv4 = ipv4Meani
 
 -- the written form: flags (bit 0 V6, bit 1 V4), SEID, and the addresses that are given
 unfoldable pub wire : Value → List ℕ
-wire v = flagByte (v .v6 ∷ v .v4 ∷ []) ∷ (bytesOf 8 (v .seid) ++ (bytesIf (v .ipv4) ++ bytesIf (v .ipv6)))
+wire v = flagByte (v .v6 ∷ v .v4 ∷ []) ∷ (bigEndianBytes 8 (v .seid) ++ (bytesIf (v .ipv4) ++ bytesIf (v .ipv6)))
 
 -- flags and SEID, 9 bytes, then IPv4 under bit 1, then IPv6 under bit 0; no flags are forbidden
 abbrev pub layout : Layout
 layout = record { head = 9; rule = λ b. 0; fields = λ b. wanted 1 (bit 1 b) 4 ∷ wanted 2 (bit 0 b) 16 ∷ [] }
 
+-- how long the written form of a value that was read is at most, with both addresses; at least it is as long as the head
+abbrev pub maxLen : ℕ
+maxLen = 9 + 4 + 16
+
 -- bits 2 to 7 of the flags are ignored: two bits of the first byte are kept
-abbrev pub kept : List ℕ
-kept = 2 ∷ []
+abbrev pub keptBits : List ℕ
+keptBits = 2 ∷ []
 
 -- the record of a payload that has all the fields
 unfoldable pub recordOf : List ℕ → Fseid
@@ -47,8 +51,8 @@ recordOf s =
       v4 = v4;
       v6 = v6;
       seid = record { 0 = bigEndian (field s 1 8) };
-      «ipv4_address» = ipv4Of (field s 9 (under v4 4));
-      «ipv6_address» = ipv6Of (field s (9 + under v4 4) (under v6 16));
+      «ipv4_address» = ipv4Of (field s 9 (ifSet v4 4));
+      «ipv6_address» = ipv6Of (field s (9 + ifSet v4 4) (ifSet v6 16));
     }
 
 -- a refused read: the empty record and used 0

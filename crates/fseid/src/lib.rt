@@ -8,7 +8,7 @@ ghost use mathlib.Core.Path.{_≡_};
 ghost use lib.ListN.{length};
 ghost use Rattle.octets.specs.Octets.{put};
 ghost use Rattle.answer.specs.Paper.{written};
-ghost use Rattle.fseid.specs.Fseid.{made, meaning, wire, read, refused};
+ghost use Rattle.fseid.specs.Fseid.{made, meaning, wire, maxLen, read, refused};
 
 pub struct Fseid {
     pub v4: bool,
@@ -50,6 +50,13 @@ impl Fseid {
 
     pub const MAX_LEN: usize = 29;
 
+    // The second as a promise: a constant has none. `unmarshal` promises the first.
+    pub fn max_len() -> usize
+        ensures { λ r. ⌜ r ≡ maxLen ⌝ }
+    {
+        Fseid::MAX_LEN
+    }
+
     // V4 and V6 from the addresses given.
     pub fn new(seid: Seid, ipv4_address: MaybeIpv4, ipv6_address: MaybeIpv6) -> Fseid
         ensures { λ r. ⌜ r ≡ made seid «ipv4_address» «ipv6_address» ⌝ }
@@ -68,7 +75,7 @@ impl Fseid {
     {
         let n = payload.len();
         if 65535 < n {
-            return refused(Answer::TooLong { length: n });
+            return refused(Answer::InputTooLong { length: n });
         }
         if n < Fseid::MIN_LEN {
             return refused(Answer::Short {
@@ -80,8 +87,8 @@ impl Fseid {
         let flags = payload[0];
         let v6 = octets::bit(flags, 0);
         let v4 = octets::bit(flags, 1);
-        let end4 = Fseid::MIN_LEN + octets::under(v4, 4);
-        let end6 = end4 + octets::under(v6, 16);
+        let end4 = Fseid::MIN_LEN + octets::if_set(v4, 4);
+        let end6 = end4 + octets::if_set(v6, 16);
         if n < end6 {
             if n < end4 {
                 return refused(Answer::Short {
@@ -96,8 +103,8 @@ impl Fseid {
                 actual: n,
             });
         }
-        let seid = octets::number(&payload[1..9]);
-        let ipv4_address = MaybeIpv4::of(&payload[9..end4]);
+        let seid = octets::number(&payload[1..Fseid::MIN_LEN]);
+        let ipv4_address = MaybeIpv4::of(&payload[Fseid::MIN_LEN..end4]);
         let ipv6_address = MaybeIpv6::of(&payload[end4..end6]);
         FseidRead {
             answer: Answer::Done,
@@ -118,8 +125,8 @@ impl Fseid {
     {
         let ipv4_address = self.ipv4_address;
         let ipv6_address = self.ipv6_address;
-        let end4 = Fseid::MIN_LEN + octets::under(ipv4_address.given, 4);
-        let end6 = end4 + octets::under(ipv6_address.given, 16);
+        let end4 = Fseid::MIN_LEN + octets::if_set(ipv4_address.given, 4);
+        let end6 = end4 + octets::if_set(ipv6_address.given, 16);
         if out.len() < end6 {
             return Written {
                 answer: Answer::NoRoom { needed: end6 },
@@ -129,7 +136,7 @@ impl Fseid {
         let flags = octets::flag_byte(self.v6, self.v4, false, false, false, false, false, false);
         octets::put_byte(out, 0, flags);
         octets::put_number(out, 1, 8, self.seid.0);
-        octets::put_ipv4(out, 9, ipv4_address);
+        octets::put_ipv4(out, Fseid::MIN_LEN, ipv4_address);
         octets::put_ipv6(out, end4, ipv6_address);
         Written {
             answer: Answer::Done,

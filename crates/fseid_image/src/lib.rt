@@ -1,28 +1,38 @@
 // The F-SEID in a record image.
 use answer::Answer;
 use fseid::Fseid;
-use octets::MaybeIpv4;
-use octets::MaybeIpv6;
 use types::Seid;
 ghost use mathlib.Core.Path.{_≡_};
-ghost use Prim.Native.Nat.{_+_, _≤_};
+ghost use Prim.Native.Nat.{_≤_};
 ghost use lib.ListN.{length, getD};
 ghost use mathlib.Core.List.{_++_};
-ghost use Rattle.answer.specs.declared.Answer.the-variants.{Done, Short};
+ghost use Rattle.answer.specs.declared.Answer.the-variants.{Done};
 ghost use Rattle.answer.specs.Paper.{numberOf};
-ghost use Rattle.octets.specs.Octets.{bit, under, field, ipv4Of, ipv6Of, put};
-ghost use Rattle.image.specs.Image.{Plain4, Plain6, head, told, laid, whole, numbered, changed, reported};
-ghost use Rattle.fseid.specs.Fseid.{refused, read};
-ghost use Rattle.fseid_image.specs.FseidImage.{recordImage, imageOf, refusal, recordAt, writes, stores};
+ghost use Rattle.octets.specs.Octets.{bit, put};
+ghost use Rattle.image.specs.Steps.{ZerosIfAbsent4, ZerosIfAbsent6};
+ghost use Rattle.image.specs.Image.{head, readNumber, readImage, longEnough, writeNumber, writeOutput, writeReport};
+ghost use Rattle.fseid.specs.Fseid.{read};
+ghost use Rattle.fseid_image.specs.FseidImage.{size, recordImage, imageOf, recordAt, writes, stores};
 
-// How long an image is.
-pub const SIZE: usize = 70;
+// Where each field of an image stands, and how long an image is.
+const FLAGS: usize = image::HEAD;
 
-// Puts the image of a read that is done, from the back to the front. The test tells the compiler what `requires` says, so that no put tests the room again.
+const GIVEN: usize = FLAGS + 1;
+
+const SEID: usize = GIVEN + 1;
+
+const IPV4: usize = SEID + 8;
+
+const IPV6: usize = IPV4 + 4;
+
+pub const SIZE: usize = IPV6 + 16;
+
+// Puts the image of a read that is done, from the back to the front. The test tells the compiler what `requires` says, so that no
+// put tests the room again.
 fn put_image(out: &mut [u8], used: usize, record: Fseid)
-    requires { ⌜ 70 ≤ length (now out) ⌝ }
-    requires { ⌜ Plain4 («record» .«ipv4_address») ⌝ }
-    requires { ⌜ Plain6 («record» .«ipv6_address») ⌝ }
+    requires { ⌜ size ≤ length (now out) ⌝ }
+    requires { ⌜ ZerosIfAbsent4 («record» .«ipv4_address») ⌝ }
+    requires { ⌜ ZerosIfAbsent6 («record» .«ipv6_address») ⌝ }
     ensures { λ _. ⌜ now (out .exit) ≡ put (now (out .entry)) 0 (head Done used ++ recordImage «record») ⌝ }
 {
     if out.len() < SIZE {
@@ -52,68 +62,20 @@ fn put_image(out: &mut [u8], used: usize, record: Fseid)
         false,
         false,
     );
-    octets::put_bytes(out, 54, &octets6);
-    octets::put_bytes(out, 50, &octets4);
-    image::put_u64(out, 42, record.seid.0);
-    octets::put_byte(out, 41, given);
-    octets::put_byte(out, 40, flags);
+    octets::put_bytes(out, IPV6, &octets6);
+    octets::put_bytes(out, IPV4, &octets4);
+    image::put_u64(out, SEID, record.seid.0);
+    octets::put_byte(out, GIVEN, given);
+    octets::put_byte(out, FLAGS, flags);
     image::put_head(out, Answer::Done, used);
 }
 
-// Puts the image of a refusal, by its number and values: the empty record is all zeros.
-fn put_refused(out: &mut [u8], number: u64, v0: u64, v1: u64, v2: u64) -> u64
-    requires { ⌜ 70 ≤ length (now out) ⌝ }
-    ensures { λ r. ⌜ r ≡ number ⌝ }
-    ensures { λ r. ⌜ now (out .exit) ≡ put (now (out .entry)) 0 (refusal number v0 v1 v2) ⌝ }
-{
-    if out.len() < SIZE {
-        return number;
-    }
-    let none = [0u8; 38];
-    octets::put_bytes(out, 32, &none);
-    image::put_u64(out, 24, v2);
-    image::put_u64(out, 16, v1);
-    image::put_u64(out, 8, v0);
-    image::put_u64(out, 0, number);
-    number
-}
-
-// Puts the refusal of a payload that ends before a needed field.
-fn put_short(out: &mut [u8], field: u8, expected: usize, actual: usize) -> u64
-    requires { ⌜ 70 ≤ length (now out) ⌝ }
-    ensures { λ r. ⌜ r ≡ 1 ⌝ }
-    ensures { λ r. ⌜ now (out .exit) ≡ put (now (out .entry)) 0 (imageOf (refused (Short field expected actual))) ⌝ }
-{
-    put_refused(out, 1, field as u64, expected as u64, actual as u64)
-}
-
-// The addresses from a place on, absent where they aren't sent.
-fn ipv4_sent(payload: &[u8], at: usize, sent: bool) -> MaybeIpv4
-    requires { ⌜ at + under sent 4 ≤ length (now payload) ⌝ }
-    ensures { λ r. ⌜ r ≡ ipv4Of (field (now (payload .entry)) at (under sent 4)) ⌝ }
-{
-    if sent {
-        return MaybeIpv4::of(&payload[at..at + 4]);
-    }
-    MaybeIpv4::ABSENT
-}
-
-fn ipv6_sent(payload: &[u8], at: usize, sent: bool) -> MaybeIpv6
-    requires { ⌜ at + under sent 16 ≤ length (now payload) ⌝ }
-    ensures { λ r. ⌜ r ≡ ipv6Of (field (now (payload .entry)) at (under sent 16)) ⌝ }
-{
-    if sent {
-        return MaybeIpv6::of(&payload[at..at + 16]);
-    }
-    MaybeIpv6::ABSENT
-}
-
 // A read goes straight into the image, without the record that `Fseid::unmarshal` makes. V4 and V6 are passed on as constants, so
-// that the compiler knows the places and the widths on each way.
+// that the compiler knows the places and the widths.
 
 // Reads a payload that has its flags and its SEID into an image, by V4 and V6.
 fn read_concrete(payload: &[u8], image: &mut [u8], v4: bool, v6: bool) -> u64
-    requires { ⌜ 70 ≤ length (now image) ⌝ }
+    requires { ⌜ size ≤ length (now image) ⌝ }
     requires { ⌜ 9 ≤ length (now payload) ⌝ }
     requires { ⌜ length (now payload) ≤ 65535 ⌝ }
     requires { ⌜ v4 ≡ bit 1 (getD (now payload) 0 0) ⌝ }
@@ -122,17 +84,17 @@ fn read_concrete(payload: &[u8], image: &mut [u8], v4: bool, v6: bool) -> u64
     ensures { λ r. ⌜ now (image .exit) ≡ put (now (image .entry)) 0 (imageOf (read (now (payload .entry)))) ⌝ }
 {
     let n = payload.len();
-    let end4 = 9 + octets::under(v4, 4);
-    let end6 = end4 + octets::under(v6, 16);
+    let end4 = Fseid::MIN_LEN + octets::if_set(v4, 4);
+    let end6 = end4 + octets::if_set(v6, 16);
     if n < end6 {
         if n < end4 {
-            return put_short(image, 1, end4, n);
+            return image::put_short(image, SIZE, 1, end4, n);
         }
-        return put_short(image, 2, end6, n);
+        return image::put_short(image, SIZE, 2, end6, n);
     }
-    let seid = octets::number(&payload[1..9]);
-    let ipv4_address = ipv4_sent(payload, 9, v4);
-    let ipv6_address = ipv6_sent(payload, end4, v6);
+    let seid = octets::number(&payload[1..Fseid::MIN_LEN]);
+    let ipv4_address = image::ipv4_at(payload, Fseid::MIN_LEN, v4);
+    let ipv6_address = image::ipv6_at(payload, end4, v6);
     let record = Fseid {
         v4,
         v6,
@@ -144,9 +106,9 @@ fn read_concrete(payload: &[u8], image: &mut [u8], v4: bool, v6: bool) -> u64
     0
 }
 
-// The ways of a payload that has its flags and its SEID.
+// Reads a payload that has its flags and its SEID into an image.
 fn read_addresses(payload: &[u8], image: &mut [u8]) -> u64
-    requires { ⌜ 70 ≤ length (now image) ⌝ }
+    requires { ⌜ size ≤ length (now image) ⌝ }
     requires { ⌜ 9 ≤ length (now payload) ⌝ }
     requires { ⌜ length (now payload) ≤ 65535 ⌝ }
     ensures { λ r. ⌜ r ≡ numberOf (read (now (payload .entry)) .answer) ⌝ }
@@ -170,11 +132,11 @@ fn read_addresses(payload: &[u8], image: &mut [u8]) -> u64
 fn record_at(image: &[u8]) -> Fseid
     ensures { λ r. ⌜ r ≡ recordAt (now (image .entry)) ⌝ }
 {
-    let flags = image::byte_at(image, 40);
-    let given = image::byte_at(image, 41);
-    let seid = image::u64_at(image, 42);
-    let ipv4_address = image::ipv4_at(image, 50, octets::bit(given, 0));
-    let ipv6_address = image::ipv6_at(image, 54, octets::bit(given, 1));
+    let flags = image::byte_at(image, FLAGS);
+    let given = image::byte_at(image, GIVEN);
+    let seid = image::u64_at(image, SEID);
+    let ipv4_address = image::ipv4_at(image, IPV4, octets::bit(given, 0));
+    let ipv6_address = image::ipv6_at(image, IPV6, octets::bit(given, 1));
     Fseid {
         v4: octets::bit(flags, 1),
         v6: octets::bit(flags, 0),
@@ -185,26 +147,26 @@ fn record_at(image: &[u8]) -> Fseid
 }
 
 pub fn read(payload: &[u8], image: &mut [u8]) -> u64
-    ensures { λ r. ⌜ r ≡ told 70 (now (image .entry)) (read (now (payload .entry)) .answer) ⌝ }
-    ensures { λ r. ⌜ now (image .exit) ≡ laid 70 (now (image .entry)) (imageOf (read (now (payload .entry)))) ⌝ }
+    ensures { λ r. ⌜ r ≡ readNumber size (now (image .entry)) (read (now (payload .entry)) .answer) ⌝ }
+    ensures { λ r. ⌜ now (image .exit) ≡ readImage size (now (image .entry)) (imageOf (read (now (payload .entry)))) ⌝ }
 {
     if image.len() < SIZE {
         return 8;
     }
     let n = payload.len();
     if 65535 < n {
-        return put_refused(image, 5, n as u64, 0, 0);
+        return image::put_refused(image, SIZE, Answer::InputTooLong { length: n });
     }
     if n < Fseid::MIN_LEN {
-        return put_short(image, 0, Fseid::MIN_LEN, n);
+        return image::put_short(image, SIZE, 0, Fseid::MIN_LEN, n);
     }
     read_addresses(payload, image)
 }
 
 pub fn write(image: &[u8], out: &mut [u8], report: &mut [u8]) -> u64
-    ensures { λ r. ⌜ r ≡ numbered (whole 70 (now (image .entry)) (now (report .entry))) (writes (now (image .entry)) (now (out .entry))) ⌝ }
-    ensures { λ r. ⌜ now (out .exit) ≡ changed (whole 70 (now (image .entry)) (now (report .entry))) (stores (now (image .entry)) (now (out .entry))) (now (out .entry)) ⌝ }
-    ensures { λ r. ⌜ now (report .exit) ≡ reported (whole 70 (now (image .entry)) (now (report .entry))) (now (report .entry)) (writes (now (image .entry)) (now (out .entry))) ⌝ }
+    ensures { λ r. ⌜ r ≡ writeNumber (longEnough size (now (image .entry)) (now (report .entry))) (writes (now (image .entry)) (now (out .entry))) ⌝ }
+    ensures { λ r. ⌜ now (out .exit) ≡ writeOutput (longEnough size (now (image .entry)) (now (report .entry))) (stores (now (image .entry)) (now (out .entry))) (now (out .entry)) ⌝ }
+    ensures { λ r. ⌜ now (report .exit) ≡ writeReport (longEnough size (now (image .entry)) (now (report .entry))) (now (report .entry)) (writes (now (image .entry)) (now (out .entry))) ⌝ }
 {
     if !image::long_enough(SIZE, image.len(), report.len()) {
         return 8;

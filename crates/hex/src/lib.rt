@@ -25,7 +25,8 @@ fn pairs_in(text_len: usize, room: usize) -> usize
     if whole < room { whole } else { room }
 }
 
-// Puts the bytes of the digit pairs that a text begins with at the start of an output, as far as it has room, and answers how many they are.
+// Puts the bytes of the digit pairs that a text begins with at the start of an output, as far as it has room, and answers how many
+// they are.
 pub fn parse(text: &[u8], out: &mut [u8]) -> usize
     ensures { λ r. ⌜ r ≡ length (pairs (length (now (out .entry))) (now (text .entry))) ⌝ }
     ensures { λ r. ⌜ now (out .exit) ≡ put (now (out .entry)) 0 (pairs (length (now (out .entry))) (now (text .entry))) ⌝ }

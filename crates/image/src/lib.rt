@@ -4,22 +4,35 @@ use answer::Answer;
 use answer::Written;
 use octets::MaybeIpv4;
 use octets::MaybeIpv6;
+use octets::MaybeU16;
+use octets::MaybeU32;
 ghost use mathlib.Core.Path.{_≡_};
 ghost use mathlib.Core.List.{_∷_, []};
 ghost use mathlib.Core.Bool.{_&&_};
 ghost use Prim.Native.Nat.{_+_, _*_};
-ghost use lib.ListN.{length, getD};
+ghost use lib.ListN.{getD};
 ghost use lib.Dec.{leb};
+ghost use Rattle.answer.specs.declared.Answer.the-variants.{Short, Flags};
 ghost use Rattle.answer.specs.Paper.{numberOf};
-ghost use Rattle.octets.specs.Octets.{pick, under, field, ipv4Of, ipv6Of, put};
-ghost use Rattle.image.specs.Image.{low, numberAt, filled, head, report};
+ghost use Rattle.octets.specs.Octets.{ifSet, field, u16Of, u32Of, ipv4Of, ipv6Of, put};
+ghost use Rattle.image.specs.Image.{littleEndianBytes, numberAt, headSize, head, refusalImage, report};
 
-// How long a head, and a report, is.
-pub const HEAD: usize = 40;
+// Where the numbers of a head stand, each of eight bytes; and how long a head, and a report, is.
+const ANSWER: usize = 0;
+
+const VALUE_0: usize = ANSWER + 8;
+
+const VALUE_1: usize = VALUE_0 + 8;
+
+const VALUE_2: usize = VALUE_1 + 8;
+
+const COUNT: usize = VALUE_2 + 8;
+
+pub const HEAD: usize = COUNT + 8;
 
 // Puts a number at a place.
 pub fn put_u64(out: &mut [u8], at: usize, x: u64)
-    ensures { λ _. ⌜ now (out .exit) ≡ put (now (out .entry)) at (low 8 x) ⌝ }
+    ensures { λ _. ⌜ now (out .exit) ≡ put (now (out .entry)) at (littleEndianBytes 8 x) ⌝ }
 {
     let x1 = x / 256;
     let x2 = x1 / 256;
@@ -42,7 +55,7 @@ pub fn put_u64(out: &mut [u8], at: usize, x: u64)
 }
 
 // The number of eight bytes.
-fn joined(b0: u8, b1: u8, b2: u8, b3: u8, b4: u8, b5: u8, b6: u8, b7: u8) -> u64
+fn from_little_endian(b0: u8, b1: u8, b2: u8, b3: u8, b4: u8, b5: u8, b6: u8, b7: u8) -> u64
     ensures { λ r. ⌜ r ≡ b0 + 256 * (b1 + 256 * (b2 + 256 * (b3 + 256 * (b4 + 256 * (b5 + 256 * (b6 + 256 * b7)))))) ⌝ }
 {
     let x6 = b6 as u64 + 256 * b7 as u64;
@@ -60,7 +73,7 @@ pub fn u64_at(image: &[u8], at: usize) -> u64
 {
     let mut bs = [0u8; 8];
     bytes::copy(texts::part(image, at, 8), &mut bs);
-    joined(bs[0], bs[1], bs[2], bs[3], bs[4], bs[5], bs[6], bs[7])
+    from_little_endian(bs[0], bs[1], bs[2], bs[3], bs[4], bs[5], bs[6], bs[7])
 }
 
 // The byte at a place, 0 where there is none.
@@ -73,45 +86,32 @@ pub fn byte_at(image: &[u8], at: usize) -> u8
     image[at]
 }
 
-// Puts the bytes of a field, or those that stand for an absent one. The two ways of a store meet those of the read before it.
-fn put_either(out: &mut [u8], at: usize, given: bool, bs: &[u8], none: &[u8])
-    ensures { λ _. ⌜ now (out .exit) ≡ put (now (out .entry)) at (pick given (now (bs .entry)) (now (none .entry))) ⌝ }
+// The address at a place of an image or of a payload, where it is given.
+pub fn ipv4_at(bytes: &[u8], at: usize, given: bool) -> MaybeIpv4
+    ensures { λ r. ⌜ r ≡ ipv4Of (field (now (bytes .entry)) at (ifSet given 4)) ⌝ }
 {
-    if given {
-        octets::put_bytes(out, at, bs);
-        return;
-    }
-    octets::put_bytes(out, at, none);
+    MaybeIpv4::of(texts::part(bytes, at, octets::if_set(given, 4)))
 }
 
-// Puts an address at a place, zeros where it is absent.
-pub fn put_ipv4(out: &mut [u8], at: usize, a: MaybeIpv4)
-    ensures { λ _. ⌜ now (out .exit) ≡ put (now (out .entry)) at (filled 4 (a .given) (a .octets)) ⌝ }
+pub fn ipv6_at(bytes: &[u8], at: usize, given: bool) -> MaybeIpv6
+    ensures { λ r. ⌜ r ≡ ipv6Of (field (now (bytes .entry)) at (ifSet given 16)) ⌝ }
 {
-    let octets = a.octets;
-    let none = [0u8; 4];
-    put_either(out, at, a.given, &octets, &none);
+    MaybeIpv6::of(texts::part(bytes, at, octets::if_set(given, 16)))
 }
 
-pub fn put_ipv6(out: &mut [u8], at: usize, a: MaybeIpv6)
-    ensures { λ _. ⌜ now (out .exit) ≡ put (now (out .entry)) at (filled 16 (a .given) (a .octets)) ⌝ }
+// The number at a place of a payload, 0 where it isn't given.
+pub fn u16_at(bytes: &[u8], at: usize, given: bool) -> u16
+    ensures { λ r. ⌜ r ≡ u16Of (field (now (bytes .entry)) at (ifSet given 2)) .value ⌝ }
 {
-    let octets = a.octets;
-    let none = [0u8; 16];
-    put_either(out, at, a.given, &octets, &none);
+    let number = MaybeU16::of(texts::part(bytes, at, octets::if_set(given, 2)));
+    number.value
 }
 
-// The address at a place, where it is given.
-pub fn ipv4_at(image: &[u8], at: usize, given: bool) -> MaybeIpv4
-    ensures { λ r. ⌜ r ≡ ipv4Of (field (now (image .entry)) at (under given 4)) ⌝ }
+pub fn u32_at(bytes: &[u8], at: usize, width: usize, given: bool) -> u32
+    ensures { λ r. ⌜ r ≡ u32Of (field (now (bytes .entry)) at (ifSet given width)) .value ⌝ }
 {
-    MaybeIpv4::of(texts::part(image, at, octets::under(given, 4)))
-}
-
-pub fn ipv6_at(image: &[u8], at: usize, given: bool) -> MaybeIpv6
-    ensures { λ r. ⌜ r ≡ ipv6Of (field (now (image .entry)) at (under given 16)) ⌝ }
-{
-    MaybeIpv6::of(texts::part(image, at, octets::under(given, 16)))
+    let number = MaybeU32::of(texts::part(bytes, at, octets::if_set(given, width)));
+    number.value
 }
 
 // Puts what an image begins with: the answer's number and values, and a count. From the back to the front, as all of an image.
@@ -122,14 +122,14 @@ pub fn put_head(out: &mut [u8], answer: Answer, count: usize)
         return;
     }
     let values = answer.values();
-    put_u64(out, 32, count as u64);
-    put_u64(out, 24, values.2 as u64);
-    put_u64(out, 16, values.1 as u64);
-    put_u64(out, 8, values.0 as u64);
-    put_u64(out, 0, answer.number() as u64);
+    put_u64(out, COUNT, count as u64);
+    put_u64(out, VALUE_2, values.2 as u64);
+    put_u64(out, VALUE_1, values.1 as u64);
+    put_u64(out, VALUE_0, values.0 as u64);
+    put_u64(out, ANSWER, answer.number() as u64);
 }
 
-// Puts what a write answered, and says its number.
+// Puts what a write answered, and returns the answer's number.
 pub fn put_report(out: &mut [u8], written: Written) -> u64
     ensures { λ r. ⌜ r ≡ numberOf (written .answer) ⌝ }
     ensures { λ r. ⌜ now (out .exit) ≡ put (now (out .entry)) 0 (report written) ⌝ }
@@ -139,9 +139,46 @@ pub fn put_report(out: &mut [u8], written: Written) -> u64
     answer.number() as u64
 }
 
+// Puts the image of a refused read, and returns the answer's number: the head, then the empty record's zeros up to the size that is
+// given.
+pub fn put_refused(out: &mut [u8], size: usize, answer: Answer) -> u64
+    ensures { λ r. ⌜ r ≡ numberOf answer ⌝ }
+    ensures { λ r. ⌜ now (out .exit) ≡ put (now (out .entry)) 0 (refusalImage size answer) ⌝ }
+{
+    if out.len() < size {
+        return answer.number() as u64;
+    }
+    octets::put_zeros(out, HEAD, size);
+    put_report(out, Written { answer, len: 0 })
+}
+
+// Puts the refusal of a payload that ends before a needed field.
+pub fn put_short(out: &mut [u8], size: usize, field: u8, expected: usize, actual: usize) -> u64
+    ensures { λ r. ⌜ r ≡ numberOf (Short field expected actual) ⌝ }
+    ensures { λ r. ⌜ now (out .exit) ≡ put (now (out .entry)) 0 (refusalImage size (Short field expected actual)) ⌝ }
+{
+    put_refused(
+        out,
+        size,
+        Answer::Short {
+            field,
+            expected,
+            actual,
+        },
+    )
+}
+
+// Puts the refusal of flags that break a rule.
+pub fn put_flags(out: &mut [u8], size: usize, byte: u8, rule: u8) -> u64
+    ensures { λ r. ⌜ r ≡ numberOf (Flags byte rule) ⌝ }
+    ensures { λ r. ⌜ now (out .exit) ≡ put (now (out .entry)) 0 (refusalImage size (Flags byte rule)) ⌝ }
+{
+    put_refused(out, size, Answer::Flags { byte, rule })
+}
+
 // Whether an image and a report have their bytes.
 pub fn long_enough(size: usize, image_len: usize, report_len: usize) -> bool
-    ensures { λ r. ⌜ r ≡ leb size «image_len» && leb 40 «report_len» ⌝ }
+    ensures { λ r. ⌜ r ≡ leb size «image_len» && leb headSize «report_len» ⌝ }
 {
     if image_len < size {
         return false;

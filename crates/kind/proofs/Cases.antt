@@ -7,17 +7,17 @@ use mathlib.Core.List.{List, _∷_}
 use lib.ListN.{length, getD, take, drop}
 use borrow.Author.Tests.{le-leb, lt-leb}
 use Rattle.answer.specs.declared.Answer.{Answer}
-use Rattle.answer.specs.declared.Answer.the-variants.{Done, Short, Flags, NodeType, NotUtf8, TooLong, BadText, TooWide, NoRoom, Unbuilt}
+use Rattle.answer.specs.declared.Answer.the-variants.{Done, Short, Flags, NodeType, NotUtf8, InputTooLong, BadText, OutputTooLong, NoRoom, Unbuilt}
 use Rattle.answer.specs.Paper.{numberOf, written}
-use Rattle.octets.specs.Octets.{bit, under, put}
+use Rattle.octets.specs.Octets.{bit, ifSet, put}
 use Rattle.octets.proofs.Laws.{put-not, Puts, put-row}
-use Rattle.kind.specs.Layout.{Wanted, wanted, Layout, Outcome, accepts, refuses, judged, outcome}
+use Rattle.kind.specs.Layout.{Wanted, wanted, Layout, Outcome, accepts, refuses, unlessBroken, outcome}
 use Rattle.kind.proofs.Laws.{total, end, too-long, too-short, headed, whole}
 use Rattle.kind.proofs.Rows.{stops}
 
 -- ---- readers: `found` is what a reader makes of an outcome, and r what it answers
 module _ {Read : Type 0} (found : List ℕ → Outcome → Read) (l : Layout) (s : List ℕ) (r : Read) where
-  pub stop-long : 65535 < length s → r ≡ found s (refuses (TooLong (length s))) → r ≡ found s (outcome l s)
+  pub stop-long : 65535 < length s → r ≡ found s (refuses (InputTooLong (length s))) → r ≡ found s (outcome l s)
   stop-long h q = rw (too-long l s h) q
 
   module _ (fits : length s ≤ 65535) where
@@ -25,7 +25,7 @@ module _ {Read : Type 0} (found : List ℕ → Outcome → Read) (l : Layout) (s
     stop-head h q = rw (too-short l s fits h) q
 
     pub stop-rule : (k : ℕ) → l .head ≤ length s → l .rule (getD s 0 0) ≡ k → (k ≡ 0 → ⊥) → r ≡ found s (refuses (Flags (getD s 0 0) k)) → r ≡ found s (outcome l s)
-    unfolding judged
+    unfolding unlessBroken
     stop-rule zero h e g q = absurd (g refl)
     stop-rule (suc k) h e g q = rw (headed l s fits h, e) q
 
@@ -34,7 +34,7 @@ module _ {Read : Type 0} (found : List ℕ → Outcome → Read) (l : Layout) (s
       pub stop-field : (k number : ℕ) (sent : Bool) (width : ℕ) (after : List Wanted) (at e : ℕ)
           → drop k (l .fields (getD s 0 0)) ≡ wanted number sent width ∷ after
           → at ≡ l .head + total (take k (l .fields (getD s 0 0)))
-          → e ≡ at + under sent width
+          → e ≡ at + ifSet sent width
           → at ≤ length s
           → length s < e
           → r ≡ found s (refuses (Short number e (length s)))
@@ -52,15 +52,15 @@ number-is-done (Short f x y) e = absurd (omega arith)
 number-is-done (Flags b r) e = absurd (omega arith)
 number-is-done (NodeType b) e = absurd (omega arith)
 number-is-done (NotUtf8 p) e = absurd (omega arith)
-number-is-done (TooLong n) e = absurd (omega arith)
+number-is-done (InputTooLong n) e = absurd (omega arith)
 number-is-done (BadText f) e = absurd (omega arith)
-number-is-done TooWide e = absurd (omega arith)
+number-is-done OutputTooLong e = absurd (omega arith)
 number-is-done (NoRoom n) e = absurd (omega arith)
 number-is-done (Unbuilt r) e = absurd (omega arith)
 
 -- the width of a field under a flag that was read
-pub width-under : (s : List ℕ) (k w : ℕ) (f : Bool) (u : ℕ) → f ≡ bit k (getD s 0 0) → u ≡ under f w → u ≡ under (bit k (getD s 0 0)) w
-width-under s k w f u d e = rw d at e
+pub width-ifSet : (s : List ℕ) (k w : ℕ) (f : Bool) (u : ℕ) → f ≡ bit k (getD s 0 0) → u ≡ ifSet f w → u ≡ ifSet (bit k (getD s 0 0)) w
+width-ifSet s k w f u d e = rw d at e
 
 -- ---- writers: d is the output, and bytes are the written form, n of them
 module _ (d bytes : List ℕ) (n : ℕ) (long : length bytes ≡ n) where

@@ -23,16 +23,39 @@ pub record Fixed : Type 1 where
   pub Value : Type 0
   pub reader : Reader Value
   pub layout : Layout
-  pub kept : List ℕ
+  pub keptBits : List ℕ
   pub valueOf : List ℕ → Value
   pub wire : Value → List ℕ
   pub follows : Follows reader layout valueOf
   -- payloads that are alike as far as the fields go have the same rule, fields and value
-  pub same-rule : (s t : List ℕ) → Alike kept (end layout s) s t → layout .rule (getD t 0 0) ≡ layout .rule (getD s 0 0)
-  pub same-end : (s t : List ℕ) → Alike kept (end layout s) s t → end layout t ≡ end layout s
-  pub same-value : (s t : List ℕ) → Alike kept (end layout s) s t → valueOf t ≡ valueOf s
+  pub same-rule : (s t : List ℕ) → Alike keptBits (end layout s) s t → layout .rule (getD t 0 0) ≡ layout .rule (getD s 0 0)
+  pub same-end : (s t : List ℕ) → Alike keptBits (end layout s) s t → end layout t ≡ end layout s
+  pub same-value : (s t : List ℕ) → Alike keptBits (end layout s) s t → valueOf t ≡ valueOf s
   -- the written form of a whole payload's value, where no rule is broken
-  pub rewritten : (s : List ℕ) → Bytes s → layout .rule (getD s 0 0) ≡ 0 → end layout s ≤ length s → wire (valueOf s) ≡ clear kept (take (end layout s) s)
+  pub rewritten : (s : List ℕ) → Bytes s → layout .rule (getD s 0 0) ≡ 0 → end layout s ≤ length s → wire (valueOf s) ≡ clear keptBits (take (end layout s) s)
+
+-- such a kind, from its parts in a row
+abbrev pub fixed-by : {Value : Type 0} (reader : Reader Value) (layout : Layout) (keptBits : List ℕ) (valueOf : List ℕ → Value) (wire : Value → List ℕ)
+    → Follows reader layout valueOf
+    → ((s t : List ℕ) → Alike keptBits (end layout s) s t → layout .rule (getD t 0 0) ≡ layout .rule (getD s 0 0))
+    → ((s t : List ℕ) → Alike keptBits (end layout s) s t → end layout t ≡ end layout s)
+    → ((s t : List ℕ) → Alike keptBits (end layout s) s t → valueOf t ≡ valueOf s)
+    → ((s : List ℕ) → Bytes s → layout .rule (getD s 0 0) ≡ 0 → end layout s ≤ length s → wire (valueOf s) ≡ clear keptBits (take (end layout s) s))
+    → Fixed
+fixed-by {Value} reader layout keptBits valueOf wire follows rule end value again =
+    record {
+      Value = Value;
+      reader = reader;
+      layout = layout;
+      keptBits = keptBits;
+      valueOf = valueOf;
+      wire = wire;
+      follows = follows;
+      same-rule = rule;
+      same-end = end;
+      same-value = value;
+      rewritten = again;
+    }
 
 module _ (f : Fixed) where
   -- what an accepted payload has
@@ -50,46 +73,46 @@ module _ (f : Fixed) where
       sym (f .follows .on-accepts s (end (f .layout) s) (whole (f .layout) s (w .fits) (w .free) (omega arith)) .2) ∙ r .value
 
   -- a payload that is alike as far as the fields go is read alike
-  carry : {s : List ℕ} {v : f .Value} {n : ℕ} (t : List ℕ) → Bytes t → length t ≤ 65535 → Alike (f .kept) n s t → Reads (f .reader) s v n → Reads (f .reader) t v n
+  carry : {s : List ℕ} {v : f .Value} {n : ℕ} (t : List ℕ) → Bytes t → length t ≤ 65535 → Alike (f .keptBits) n s t → Reads (f .reader) s v n → Reads (f .reader) t v n
   carry {s} {v} {n} t b h a r =
       let w = accepted-whole r in
-      let a′ : Alike (f .kept) (end (f .layout) s) s t = rw (w .ends) at a in
+      let a′ : Alike (f .keptBits) (end (f .layout) s) s t = rw (w .ends) at a in
       let e : end (f .layout) t ≡ n = f .same-end s t a′ ∙ sym (w .ends) in
       let o = whole (f .layout) t h (f .same-rule s t a′ ∙ w .free) (omega (arith, a .right)) in
       let (done, used, value) = f .follows .on-accepts t (end (f .layout) t) o in
       record { bytes = b; done = done; value = value ∙ f .same-value s t a′ ∙ means r; used = used ∙ e }
 
-  pub cut : {s : List ℕ} {v : f .Value} {n : ℕ} → Reads (f .reader) s v n → f .wire v ≡ clear (f .kept) (take n s)
+  pub cut : {s : List ℕ} {v : f .Value} {n : ℕ} → Reads (f .reader) s v n → f .wire v ≡ clear (f .keptBits) (take n s)
   cut {s} r =
       let w = accepted-whole r in
       rw (← means r, w .ends) (f .rewritten s (r .bytes) (w .free) (omega (arith, w .within, w .ends)))
 
   -- the written form has as many bytes as were used
   pub cut-length : {s : List ℕ} {v : f .Value} {n : ℕ} → Reads (f .reader) s v n → length (f .wire v) ≡ n
-  cut-length {s} {v} {n} r = ap length (cut r) ∙ length-clear (f .kept) (take n s) ∙ length-take-le n s (accepted-whole r .within)
+  cut-length {s} {v} {n} r = ap length (cut r) ∙ length-clear (f .keptBits) (take n s) ∙ length-take-le n s (accepted-whole r .within)
 
-  pub cleared : {s : List ℕ} {v : f .Value} {n : ℕ} → Reads (f .reader) s v n → Reads (f .reader) (clear (f .kept) (take n s)) v (length (clear (f .kept) (take n s)))
+  pub cleared : {s : List ℕ} {v : f .Value} {n : ℕ} → Reads (f .reader) s v n → Reads (f .reader) (clear (f .keptBits) (take n s)) v (length (clear (f .keptBits) (take n s)))
   cleared {s} {v} {n} r =
       let w = accepted-whole r in
-      let t = clear (f .kept) (take n s) in
-      let l : length t ≡ n = length-clear (f .kept) (take n s) ∙ length-take-le n s (w .within) in
+      let t = clear (f .keptBits) (take n s) in
+      let l : length t ≡ n = length-clear (f .keptBits) (take n s) ∙ length-take-le n s (w .within) in
       let all : take n t ≡ t = take-all n t (omega arith) in
       rw l
-      (carry t (bytes-clear (f .kept) (take n s) (bytes-take n s (r .bytes))) (omega (arith, w .fits, w .within))
-      (record { left = w .within; right = omega arith; equal = rw all (clear-clear (f .kept) (take n s)) })
+      (carry t (bytes-clear (f .keptBits) (take n s) (bytes-take n s (r .bytes))) (omega (arith, w .fits, w .within))
+      (record { left = w .within; right = omega arith; equal = rw all (clear-clear (f .keptBits) (take n s)) })
       r)
 
   longer : {s : List ℕ} {v : f .Value} {n : ℕ} (t : List ℕ) → Bytes (s ++ t) → length (s ++ t) ≤ 65535 → Reads (f .reader) s v n → Reads (f .reader) (s ++ t) v n
   longer {s} {v} {n} t b h r =
       let w = accepted-whole r in
-      carry (s ++ t) b h (record { left = w .within; right = omega (arith, w .within, length-append s t); equal = ap (clear (f .kept)) (take-append-le n s t (w .within)) }) r
+      carry (s ++ t) b h (record { left = w .within; right = omega (arith, w .within, length-append s t); equal = ap (clear (f .keptBits)) (take-append-le n s t (w .within)) }) r
 
   abbrev pub kind-of : Kind
   kind-of =
       record {
         Value = f .Value;
         reader = f .reader;
-        clear = clear (f .kept);
+        clear = clear (f .keptBits);
         wire = f .wire;
         short = λ r. accepted-whole r .fits;
         written = cut;

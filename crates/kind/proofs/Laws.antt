@@ -11,44 +11,44 @@ use lib.ListN.{length, getD, take}
 use lib.Pow.{field as bits, mod-mod-pow}
 use borrow.Author.Tests.{le-leb, lt-leb, leb-true}
 use Rattle.answer.specs.declared.Answer.{Answer}
-use Rattle.answer.specs.declared.Answer.the-variants.{Done, Short, Flags, TooLong}
-use Rattle.octets.specs.Octets.{pick, bit, under, Bytes, field}
+use Rattle.answer.specs.declared.Answer.the-variants.{Done, Short, Flags, InputTooLong}
+use Rattle.octets.specs.Octets.{pick, bit, ifSet, Bytes, field}
 use Rattle.octets.proofs.Laws.{field-take}
-use Rattle.kind.specs.Layout.{Wanted, wanted, Layout, Outcome, accepts, refuses, walk, judged, outcome, clear}
+use Rattle.kind.specs.Layout.{Wanted, wanted, Layout, Outcome, accepts, refuses, walk, unlessBroken, outcome, clear}
 
 -- ---- the walk
 
 -- all the bytes that the fields take
 abbrev pub total : List Wanted → ℕ
 total [] = 0
-total (wanted number sent width ∷ fs) = under sent width + total fs
+total (wanted number sent width ∷ fs) = ifSet sent width + total fs
 
 -- where all the fields are there, the walk ends behind them
 walk-fits : (n at : ℕ) (fs : List Wanted) → at + total fs ≤ n → walk n at fs ≡ accepts (at + total fs)
 unfolding walk
 walk-fits n at [] h = rw add-zero
 walk-fits n at (wanted number sent width ∷ fs) h =
-    rw (le-leb (at + under sent width) n (omega arith), ← add-assoc) (walk-fits n (at + under sent width) fs (omega arith))
+    rw (le-leb (at + ifSet sent width) n (omega arith), ← add-assoc) (walk-fits n (at + ifSet sent width) fs (omega arith))
 
 -- a walk that ends has all the fields, within the payload
 walk-ends : (n at e : ℕ) (fs : List Wanted) → at ≤ n → walk n at fs ≡ accepts e → (e ≡ at + total fs) × (e ≤ n)
 unfolding walk
 walk-ends n at e [] h q = let z : at ≡ e = cc in (omega arith, omega arith)
 walk-ends n at e (wanted number sent width ∷ fs) h q =
-    go (walk-ends n (at + under sent width) e fs) (leb (at + under sent width) n) refl q
+    go (walk-ends n (at + ifSet sent width) e fs) (leb (at + ifSet sent width) n) refl q
   where
-    go : (at + under sent width ≤ n → walk n (at + under sent width) fs ≡ accepts e → (e ≡ at + under sent width + total fs) × (e ≤ n))
-        → (t : Bool) → leb (at + under sent width) n ≡ t → pick t (walk n (at + under sent width) fs) (refuses (Short number (at + under sent width) n)) ≡ accepts e → (e ≡ at + (under sent width + total fs)) × (e ≤ n)
-    go next true p q = let r : (e ≡ at + under sent width + total fs) × (e ≤ n) = next (leb-true _ _ p) q in (omega arith, omega arith)
+    go : (at + ifSet sent width ≤ n → walk n (at + ifSet sent width) fs ≡ accepts e → (e ≡ at + ifSet sent width + total fs) × (e ≤ n))
+        → (t : Bool) → leb (at + ifSet sent width) n ≡ t → pick t (walk n (at + ifSet sent width) fs) (refuses (Short number (at + ifSet sent width) n)) ≡ accepts e → (e ≡ at + (ifSet sent width + total fs)) × (e ≤ n)
+    go next true p q = let r : (e ≡ at + ifSet sent width + total fs) × (e ≤ n) = next (leb-true _ _ p) q in (omega arith, omega arith)
     go next false p q = let z : _≡_ {A = ℕ} 0 1 = cc in absurd (omega arith)
 
 -- no walk refuses with done
 walk-refuses : (n at : ℕ) (fs : List Wanted) → walk n at fs ≡ refuses Done → ⊥
 unfolding walk
 walk-refuses n at [] q = let z : _≡_ {A = ℕ} 0 1 = cc in omega arith
-walk-refuses n at (wanted number sent width ∷ fs) q = go (walk-refuses n (at + under sent width) fs) (leb (at + under sent width) n) q
+walk-refuses n at (wanted number sent width ∷ fs) q = go (walk-refuses n (at + ifSet sent width) fs) (leb (at + ifSet sent width) n) q
   where
-    go : (walk n (at + under sent width) fs ≡ refuses Done → ⊥) → (t : Bool) → pick t (walk n (at + under sent width) fs) (refuses (Short number (at + under sent width) n)) ≡ refuses Done → ⊥
+    go : (walk n (at + ifSet sent width) fs ≡ refuses Done → ⊥) → (t : Bool) → pick t (walk n (at + ifSet sent width) fs) (refuses (Short number (at + ifSet sent width) n)) ≡ refuses Done → ⊥
     go next true q = next q
     go next false q = let z : _≡_ {A = ℕ} 0 1 = cc in omega arith
 
@@ -58,7 +58,7 @@ module _ (l : Layout) (s : List ℕ) where
   abbrev pub end : ℕ
   end = l .head + total (l .fields (getD s 0 0))
 
-  pub too-long : 65535 < length s → outcome l s ≡ refuses (TooLong (length s))
+  pub too-long : 65535 < length s → outcome l s ≡ refuses (InputTooLong (length s))
   unfolding outcome
   too-long h = rw (lt-leb _ _ h)
 
@@ -67,12 +67,12 @@ module _ (l : Layout) (s : List ℕ) where
     unfolding outcome
     too-short h = rw (le-leb _ _ fits, lt-leb _ _ h)
 
-    pub headed : l .head ≤ length s → outcome l s ≡ judged (getD s 0 0) (l .rule (getD s 0 0)) (walk (length s) (l .head) (l .fields (getD s 0 0)))
+    pub headed : l .head ≤ length s → outcome l s ≡ unlessBroken (getD s 0 0) (l .rule (getD s 0 0)) (walk (length s) (l .head) (l .fields (getD s 0 0)))
     unfolding outcome
     headed h = rw (le-leb _ _ fits, le-leb _ _ h)
 
     pub whole : l .rule (getD s 0 0) ≡ 0 → end ≤ length s → outcome l s ≡ accepts end
-    unfolding judged
+    unfolding unlessBroken
     whole e h = rw (headed (omega arith), e) (walk-fits (length s) (l .head) (l .fields (getD s 0 0)) h)
 
   -- what an accepted payload has
@@ -82,30 +82,30 @@ module _ (l : Layout) (s : List ℕ) where
     pub ends : n ≡ end
     pub within : n ≤ length s
 
-  judged-accepts : (n r : ℕ) → l .rule (getD s 0 0) ≡ r → length s ≤ 65535 → l .head ≤ length s → judged (getD s 0 0) r (walk (length s) (l .head) (l .fields (getD s 0 0))) ≡ accepts n → Whole n
-  unfolding judged
-  judged-accepts n zero e f h q =
+  unlessBroken-accepts : (n r : ℕ) → l .rule (getD s 0 0) ≡ r → length s ≤ 65535 → l .head ≤ length s → unlessBroken (getD s 0 0) r (walk (length s) (l .head) (l .fields (getD s 0 0))) ≡ accepts n → Whole n
+  unfolding unlessBroken
+  unlessBroken-accepts n zero e f h q =
       let (a, b) = walk-ends (length s) (l .head) n (l .fields (getD s 0 0)) h q in
       record { fits = f; free = e; ends = a; within = b }
-  judged-accepts n (suc r) e f h q = let z : _≡_ {A = ℕ} 0 1 = cc in absurd (omega arith)
+  unlessBroken-accepts n (suc r) e f h q = let z : _≡_ {A = ℕ} 0 1 = cc in absurd (omega arith)
 
-  judged-refuses : (r : ℕ) → judged (getD s 0 0) r (walk (length s) (l .head) (l .fields (getD s 0 0))) ≡ refuses Done → ⊥
-  unfolding judged
-  judged-refuses zero q = walk-refuses (length s) (l .head) (l .fields (getD s 0 0)) q
-  judged-refuses (suc r) q = let z : _≡_ {A = ℕ} 0 1 = cc in omega arith
+  unlessBroken-refuses : (r : ℕ) → unlessBroken (getD s 0 0) r (walk (length s) (l .head) (l .fields (getD s 0 0))) ≡ refuses Done → ⊥
+  unfolding unlessBroken
+  unlessBroken-refuses zero q = walk-refuses (length s) (l .head) (l .fields (getD s 0 0)) q
+  unlessBroken-refuses (suc r) q = let z : _≡_ {A = ℕ} 0 1 = cc in omega arith
 
   abbrev tests : Bool → Bool → Outcome
   tests t u =
       pick t
-      (pick u (judged (getD s 0 0) (l .rule (getD s 0 0)) (walk (length s) (l .head) (l .fields (getD s 0 0)))) (refuses (Short 0 (l .head) (length s))))
-      (refuses (TooLong (length s)))
+      (pick u (unlessBroken (getD s 0 0) (l .rule (getD s 0 0)) (walk (length s) (l .head) (l .fields (getD s 0 0)))) (refuses (Short 0 (l .head) (length s))))
+      (refuses (InputTooLong (length s)))
 
   pub accepted : (n : ℕ) → outcome l s ≡ accepts n → Whole n
   unfolding outcome
   accepted n q = go (leb (length s) 65535) (leb (l .head) (length s)) refl refl q
     where
       go : (t u : Bool) → leb (length s) 65535 ≡ t → leb (l .head) (length s) ≡ u → tests t u ≡ accepts n → Whole n
-      go true true p p′ q = judged-accepts n (l .rule (getD s 0 0)) refl (leb-true _ _ p) (leb-true _ _ p′) q
+      go true true p p′ q = unlessBroken-accepts n (l .rule (getD s 0 0)) refl (leb-true _ _ p) (leb-true _ _ p′) q
       go true false p p′ q = let z : _≡_ {A = ℕ} 0 1 = cc in absurd (omega arith)
       go false u p p′ q = let z : _≡_ {A = ℕ} 0 1 = cc in absurd (omega arith)
 
@@ -115,7 +115,7 @@ module _ (l : Layout) (s : List ℕ) where
   never-done q = go (leb (length s) 65535) (leb (l .head) (length s)) q
     where
       go : (t u : Bool) → tests t u ≡ refuses Done → ⊥
-      go true true q = judged-refuses (l .rule (getD s 0 0)) q
+      go true true q = unlessBroken-refuses (l .rule (getD s 0 0)) q
       go true false q = let z : _≡_ {A = ℕ} 0 1 = cc in omega arith
       go false u q = let z : _≡_ {A = ℕ} 0 1 = cc in omega arith
 

@@ -5,8 +5,8 @@ use mathlib.Core.List.{List, [], _∷_}
 use lib.ListN.{length, getD}
 use lib.Dec.{leb}
 use Rattle.answer.specs.declared.Answer.{Answer}
-use Rattle.answer.specs.declared.Answer.the-variants.{Short, Flags, TooLong}
-use Rattle.octets.specs.Octets.{pick, under}
+use Rattle.answer.specs.declared.Answer.the-variants.{Short, Flags, InputTooLong}
+use Rattle.octets.specs.Octets.{pick, ifSet}
 
 -- a field: its number in document 01, whether it is sent, its width
 pub data Wanted : Type 0 where
@@ -27,12 +27,12 @@ pub data Outcome : Type 0 where
 unfoldable pub walk : ℕ → ℕ → List Wanted → Outcome
 walk n at [] = accepts at
 walk n at (wanted number sent width ∷ fs) =
-    pick (leb (at + under sent width) n) (walk n (at + under sent width) fs) (refuses (Short number (at + under sent width) n))
+    pick (leb (at + ifSet sent width) n) (walk n (at + ifSet sent width) fs) (refuses (Short number (at + ifSet sent width) n))
 
 -- a first byte that breaks a rule is refused with it
-unfoldable pub judged : ℕ → ℕ → Outcome → Outcome
-judged byte zero o = o
-judged byte (suc rule) o = refuses (Flags byte (suc rule))
+unfoldable pub unlessBroken : ℕ → ℕ → Outcome → Outcome
+unlessBroken byte zero o = o
+unlessBroken byte (suc rule) o = refuses (Flags byte (suc rule))
 
 -- the tests in their order: 5, the bytes that come first, the rules, the fields
 unfoldable pub outcome : Layout → List ℕ → Outcome
@@ -40,8 +40,8 @@ outcome l s =
     let n = length s in
     let byte = getD s 0 0 in
     pick (leb n 65535)
-    (pick (leb (l .head) n) (judged byte (l .rule byte) (walk n (l .head) (l .fields byte))) (refuses (Short 0 (l .head) n)))
-    (refuses (TooLong n))
+    (pick (leb (l .head) n) (unlessBroken byte (l .rule byte) (walk n (l .head) (l .fields byte))) (refuses (Short 0 (l .head) n)))
+    (refuses (InputTooLong n))
 
 -- a payload with only some low bits of its first bytes kept, so many of each, and the others cleared
 unfoldable pub clear : List ℕ → List ℕ → List ℕ

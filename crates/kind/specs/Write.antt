@@ -5,7 +5,7 @@ use mathlib.Core.Option.{Option, none, some}
 use lib.Dec.{leb}
 use lib.ListN.{length}
 use Rattle.answer.specs.declared.Answer.{Answer}
-use Rattle.answer.specs.declared.Answer.the-variants.{TooLong, TooWide}
+use Rattle.answer.specs.declared.Answer.the-variants.{InputTooLong, OutputTooLong}
 use Rattle.answer.specs.declared.Written.{Written}
 use Rattle.answer.specs.Paper.{written}
 use Rattle.octets.specs.Octets.{pick, put}
@@ -17,11 +17,11 @@ none then b = b
 some a then b = some a
 
 -- 5 for a lent slice of n bytes, 7 for a written form of n bytes
-abbrev pub lent : ℕ → Option Answer
-lent n = pick (leb n 65535) none (some (TooLong n))
+abbrev pub tooLongInput : ℕ → Option Answer
+tooLongInput n = pick (leb n 65535) none (some (InputTooLong n))
 
-abbrev pub wide : ℕ → Option Answer
-wide n = pick (leb n 65535) none (some TooWide)
+abbrev pub tooLongOutput : ℕ → Option Answer
+tooLongOutput n = pick (leb n 65535) none (some OutputTooLong)
 
 -- the answer to writing these bytes into an output of m
 unfoldable pub answered : Option Answer → List ℕ → ℕ → Written

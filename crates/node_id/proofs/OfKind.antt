@@ -15,8 +15,9 @@ use Rattle.kind.specs.Kind.{Reads, Kind}
 use Rattle.kind.specs.Write.{_then_}
 use Rattle.kind.specs.Demand3.{Demand3}
 use Rattle.kind.proofs.Demand3.{demand3}
-use Rattle.node_id.specs.NodeId.{Value, meant, meaning, wire, read, reader, ofIpv4, ofIpv6, named, textual, refusal}
-use Rattle.node_id.proofs.Laws.{whole4, whole6, wholeName, Form, form4, form6, formName, formed}
+use Rattle.node_id.specs.declared.NodeId.{NodeId}
+use Rattle.node_id.specs.NodeId.{Value, meant, meaning, wire, read, reader, textual, writeRefusal}
+use Rattle.node_id.proofs.Laws.{Address, whole, whole-name, Form, address, name, formed}
 
 first-take : (n : ℕ) (s : List ℕ) → getD (take (suc n) s) 0 0 ≡ getD s 0 0
 first-take n [] = refl
@@ -31,36 +32,26 @@ pub record Cut (s : List ℕ) : Type 0 where
   pub able : textual (read s .«record» .kind) (isText s (read s .«record» .name)) ≡ none
   pub again : Bytes s → Reads reader (take used s) (meaning s (read s .«record»)) used
 
+cut-address : {k w : ℕ} {make : List ℕ → NodeId} (s : List ℕ) → length s ≤ 65535 → Address k w make → suc w ≤ length s → getD s 0 0 ≡ k → Cut s
+cut-address {w = w} s f a h e =
+    let q = whole s f a h e in
+    let l : length (take (suc w) s) ≡ suc w = length-take-le (suc w) s h in
+    let q′ = whole (take (suc w) s) (omega arith) a (omega arith) (first-take w s ∙ e) in
+    let same : field (take (suc w) s) 1 w ≡ field s 1 w = field-take 1 w (suc w) s (omega arith) in
+    record {
+      used = suc w;
+      within = h;
+      is-used = rw q;
+      rewritten = rw (q, a .means s (field s 1 w), a .writes (field s 1 w)) (sym (take-first w s (omega arith) ∙ ap (λ (b : ℕ). b ∷ field s 1 w) e));
+      able = rw q (a .able s (field s 1 w));
+      again = λ b. record { bytes = bytes-take (suc w) s b; done = rw q′; value = rw (q, q′, same, a .means s (field s 1 w)) (a .means (take (suc w) s) (field s 1 w)); used = rw q′ };
+    }
+
 cut-of : (s : List ℕ) → length s ≤ 65535 → Form s → Cut s
 unfolding meaning meant wire textual isText
-cut-of s f (form4 h e) =
-    let q = whole4 s f h e in
-    let l : length (take 5 s) ≡ 5 = length-take-le 5 s h in
-    let q′ = whole4 (take 5 s) (omega arith) (omega arith) (first-take 4 s ∙ e) in
-    let a : field (take 5 s) 1 4 ≡ field s 1 4 = field-take 1 4 5 s (omega arith) in
-    record {
-      used = 5;
-      within = h;
-      is-used = rw q;
-      rewritten = rw q (sym (take-first 4 s (omega arith) ∙ ap (λ (b : ℕ). b ∷ field s 1 4) e));
-      able = rw q;
-      again = λ b. record { bytes = bytes-take 5 s b; done = rw q′; value = rw (q, q′, a); used = rw q′ };
-    }
-cut-of s f (form6 h e) =
-    let q = whole6 s f h e in
-    let l : length (take 17 s) ≡ 17 = length-take-le 17 s h in
-    let q′ = whole6 (take 17 s) (omega arith) (omega arith) (first-take 16 s ∙ e) in
-    let a : field (take 17 s) 1 16 ≡ field s 1 16 = field-take 1 16 17 s (omega arith) in
-    record {
-      used = 17;
-      within = h;
-      is-used = rw q;
-      rewritten = rw q (sym (take-first 16 s (omega arith) ∙ ap (λ (b : ℕ). b ∷ field s 1 16) e));
-      able = rw q;
-      again = λ b. record { bytes = bytes-take 17 s b; done = rw q′; value = rw (q, q′, a); used = rw q′ };
-    }
-cut-of s f (formName h e) =
-    let q = wholeName s f h e in
+cut-of s f (address a h e) = cut-address s f a h e
+cut-of s f (name h e) =
+    let q = whole-name s f h e in
     let all : take (length s) s ≡ s = take-length s in
     let text : take (goodLen (drop 1 s)) (drop 1 s) ≡ drop 1 s = take-all (goodLen (drop 1 s)) (drop 1 s) (omega (arith, length-drop 1 s)) in
     record {
@@ -84,8 +75,8 @@ module _ {s : List ℕ} {v : Value} {n : ℕ} (r : Reads reader s v n) where
   rewritten = rw (← r .value, ← r .used, the-cut .is-used) (the-cut .rewritten)
 
   -- what was read can be written: neither 5 nor 6 nor 7
-  pub writable : refusal s (read s .«record») ≡ none
-  unfolding refusal _then_
+  pub writable : writeRefusal s (read s .«record») ≡ none
+  unfolding writeRefusal _then_
   writable =
       let fits = formed s (r .done) .0 in
       let l : length (wire (meaning s (read s .«record»))) ≤ 65535 = omega (arith, ap length (the-cut .rewritten) ∙ length-take-le (the-cut .used) s (the-cut .within), the-cut .within) in

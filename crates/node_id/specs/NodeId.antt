@@ -6,12 +6,12 @@ use mathlib.Core.Option.{Option, none, some}
 use lib.Dec.{leb, eqb}
 use lib.ListN.{length, getD, drop, replicate}
 use Rattle.answer.specs.declared.Answer.{Answer}
-use Rattle.answer.specs.declared.Answer.the-variants.{Done, Short, NodeType, NotUtf8, TooLong, BadText}
+use Rattle.answer.specs.declared.Answer.the-variants.{Done, Short, NodeType, NotUtf8, InputTooLong, BadText}
 use Rattle.octets.specs.Octets.{pick, field}
 use Rattle.text.specs.Utf8.{goodLen}
-use Rattle.texts.specs.Texts.{isText, bytesOf}
+use Rattle.texts.specs.Texts.{isText, bytesOfText}
 use Rattle.kind.specs.Kind.{Reader}
-use Rattle.kind.specs.Write.{_then_, lent, wide}
+use Rattle.kind.specs.Write.{_then_, tooLongInput, tooLongOutput}
 use Rattle.node_id.specs.declared.NodeIdType.{NodeIdType}
 use Rattle.node_id.specs.declared.NodeIdType.the-variants.{Ipv4, Ipv6, Fqdn}
 use Rattle.node_id.specs.declared.NodeId.{NodeId}
@@ -29,7 +29,7 @@ meant Ipv6 a4 a6 name = ipv6 a6
 meant Fqdn a4 a6 name = fqdn name
 
 unfoldable pub meaning : List ℕ → NodeId → Value
-meaning texts r = meant (r .kind) (r .«ipv4_address») (r .«ipv6_address») (bytesOf texts (r .name))
+meaning texts r = meant (r .kind) (r .«ipv4_address») (r .«ipv6_address») (bytesOfText texts (r .name))
 
 -- the written form: the type, then all of it
 unfoldable pub wire : Value → List ℕ
@@ -54,12 +54,16 @@ refused a = record { answer = a; used = 0; «record» = named 0 0 }
 abbrev pub accepted : ℕ → NodeId → NodeIdRead
 accepted n r = record { answer = Done; used = n; «record» = r }
 
--- type 0 needs 5 bytes, type 1 needs 17
-unfoldable pub readIpv4 : List ℕ → NodeIdRead
-readIpv4 s = pick (leb 5 (length s)) (accepted 5 (ofIpv4 (field s 1 4))) (refused (Short 1 5 (length s)))
+-- an address of so many bytes behind its type, or the refusal with its field
+unfoldable pub readAddress : ℕ → ℕ → (List ℕ → NodeId) → List ℕ → NodeIdRead
+readAddress number width make s = pick (leb (suc width) (length s)) (accepted (suc width) (make (field s 1 width))) (refused (Short number (suc width) (length s)))
 
-unfoldable pub readIpv6 : List ℕ → NodeIdRead
-readIpv6 s = pick (leb 17 (length s)) (accepted 17 (ofIpv6 (field s 1 16))) (refused (Short 2 17 (length s)))
+-- type 0 needs 5 bytes (field 1), type 1 needs 17 (field 2)
+abbrev pub readIpv4 : List ℕ → NodeIdRead
+readIpv4 s = readAddress 1 4 ofIpv4 s
+
+abbrev pub readIpv6 : List ℕ → NodeIdRead
+readIpv6 s = readAddress 2 16 ofIpv6 s
 
 -- type 2: all that follows is UTF-8 text, perhaps empty
 unfoldable pub readFqdn : List ℕ → NodeIdRead
@@ -74,7 +78,7 @@ byType (suc (suc zero)) s = readFqdn s
 byType (suc (suc (suc b))) s = refused (NodeType (suc (suc (suc b))))
 
 unfoldable pub read : List ℕ → NodeIdRead
-read s = pick (leb (length s) 65535) (pick (leb 1 (length s)) (byType (getD s 0 0) s) (refused (Short 0 1 (length s)))) (refused (TooLong (length s)))
+read s = pick (leb (length s) 65535) (pick (leb 1 (length s)) (byType (getD s 0 0) s) (refused (Short 0 1 (length s)))) (refused (InputTooLong (length s)))
 
 abbrev pub reader : Reader Value
 reader = record { answer = λ s. read s .answer; used = λ s. read s .used; value = λ s. meaning s (read s .«record») }
@@ -86,5 +90,5 @@ textual Ipv6 good = none
 textual Fqdn good = pick good none (some (BadText 10))
 
 -- what is tested before room: 5, 6, 7
-unfoldable pub refusal : List ℕ → NodeId → Option Answer
-refusal texts r = lent (length texts) then textual (r .kind) (isText texts (r .name)) then wide (length (wire (meaning texts r)))
+unfoldable pub writeRefusal : List ℕ → NodeId → Option Answer
+writeRefusal texts r = tooLongInput (length texts) then textual (r .kind) (isText texts (r .name)) then tooLongOutput (length (wire (meaning texts r)))

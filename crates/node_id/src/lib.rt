@@ -6,9 +6,10 @@ use octets::MaybeIpv6;
 use texts::Text;
 ghost use mathlib.Core.Path.{_≡_};
 ghost use mathlib.Core.List.{_∷_};
+ghost use Prim.Native.Nat.{_<_};
 ghost use lib.ListN.{length};
-ghost use Rattle.kind.specs.Write.{wide, answered, stored};
-ghost use Rattle.node_id.specs.NodeId.{named, ofIpv4, ofIpv6, refused, readIpv4, readIpv6, readFqdn, read, refusal, meaning, wire};
+ghost use Rattle.kind.specs.Write.{tooLongOutput, answered, stored};
+ghost use Rattle.node_id.specs.NodeId.{named, ofIpv4, ofIpv6, refused, readIpv4, readIpv6, readFqdn, read, writeRefusal, meaning, wire};
 
 pub enum NodeIdType {
     Ipv4,
@@ -87,12 +88,10 @@ fn read_ipv6(payload: &[u8]) -> NodeIdRead
 
 // All behind the type is the name.
 fn read_fqdn(payload: &[u8]) -> NodeIdRead
+    requires { ⌜ 0 < length (now payload) ⌝ }
     ensures { λ r. ⌜ r ≡ readFqdn (now (payload .entry)) ⌝ }
 {
     let n = payload.len();
-    if n == 0 {
-        return refused(Answer::NotUtf8 { place: 1 });
-    }
     let good = text::well_formed(&payload[1..]);
     if good != n - 1 {
         return refused(Answer::NotUtf8 { place: 1 + good });
@@ -107,12 +106,12 @@ fn read_fqdn(payload: &[u8]) -> NodeIdRead
 
 // Writes a type and what follows it.
 fn write_typed(out: &mut [u8], kind: u8, bs: &[u8]) -> Written
-    ensures { λ r. ⌜ r ≡ answered (wide (length (kind ∷ now (bs .entry)))) (kind ∷ now (bs .entry)) (length (now (out .entry))) ⌝ }
-    ensures { λ r. ⌜ now (out .exit) ≡ stored (wide (length (kind ∷ now (bs .entry)))) (now (out .entry)) (kind ∷ now (bs .entry)) ⌝ }
+    ensures { λ r. ⌜ r ≡ answered (tooLongOutput (length (kind ∷ now (bs .entry)))) (kind ∷ now (bs .entry)) (length (now (out .entry))) ⌝ }
+    ensures { λ r. ⌜ now (out .exit) ≡ stored (tooLongOutput (length (kind ∷ now (bs .entry)))) (now (out .entry)) (kind ∷ now (bs .entry)) ⌝ }
 {
     if 65534 < bs.len() {
         return Written {
-            answer: Answer::TooWide,
+            answer: Answer::OutputTooLong,
             len: 0,
         };
     }
@@ -171,13 +170,13 @@ impl NodeId {
     {
         let n = payload.len();
         if 65535 < n {
-            return refused(Answer::TooLong { length: n });
+            return refused(Answer::InputTooLong { length: n });
         }
-        if n == 0 {
+        if n < 1 {
             return refused(Answer::Short {
                 field: 0,
                 expected: 1,
-                actual: 0,
+                actual: n,
             });
         }
         let kind = payload[0];
@@ -194,13 +193,13 @@ impl NodeId {
     }
 
     pub fn marshal(self, texts: &[u8], out: &mut [u8]) -> Written
-        ensures { λ r. ⌜ r ≡ answered (refusal (now (texts .entry)) self) (wire (meaning (now (texts .entry)) self)) (length (now (out .entry))) ⌝ }
-        ensures { λ r. ⌜ now (out .exit) ≡ stored (refusal (now (texts .entry)) self) (now (out .entry)) (wire (meaning (now (texts .entry)) self)) ⌝ }
+        ensures { λ r. ⌜ r ≡ answered (writeRefusal (now (texts .entry)) self) (wire (meaning (now (texts .entry)) self)) (length (now (out .entry))) ⌝ }
+        ensures { λ r. ⌜ now (out .exit) ≡ stored (writeRefusal (now (texts .entry)) self) (now (out .entry)) (wire (meaning (now (texts .entry)) self)) ⌝ }
     {
         let n = texts.len();
         if 65535 < n {
             return Written {
-                answer: Answer::TooLong { length: n },
+                answer: Answer::InputTooLong { length: n },
                 len: 0,
             };
         }

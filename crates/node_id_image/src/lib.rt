@@ -1,5 +1,6 @@
 // The Node ID in a record image.
 use answer::Answer;
+use answer::Written;
 use node_id::NodeId;
 use node_id::NodeIdType;
 use octets::MaybeIpv4;
@@ -7,17 +8,27 @@ use octets::MaybeIpv6;
 use texts::Text;
 ghost use mathlib.Core.Path.{_≡_};
 ghost use Prim.Native.Nat.{_≤_, _<_};
-ghost use lib.ListN.{length, getD};
+ghost use lib.ListN.{length};
 ghost use mathlib.Core.List.{_++_};
-ghost use Rattle.answer.specs.declared.Answer.the-variants.{Done, Short, NodeType};
+ghost use Rattle.answer.specs.declared.Answer.the-variants.{Done};
 ghost use Rattle.answer.specs.Paper.{numberOf};
 ghost use Rattle.octets.specs.Octets.{put};
-ghost use Rattle.image.specs.Image.{head, told, laid, whole, numbered, changed, reported};
-ghost use Rattle.node_id.specs.NodeId.{refused, read};
-ghost use Rattle.node_id_image.specs.NodeIdImage.{typeByte, typeOf, isIpv4, isIpv6, recordImage, imageOf, refusalImage, recordAt, writes, stores};
+ghost use Rattle.image.specs.Image.{head, readNumber, readImage, longEnough, writeNumber, writeOutput, writeReport};
+ghost use Rattle.node_id.specs.NodeId.{refused, readIpv4, readIpv6, readFqdn, read};
+ghost use Rattle.node_id_image.specs.NodeIdImage.{size, typeByte, typeOf, recordImage, imageOf, recordAt, writes, stores};
 
-// How long an image is.
-pub const SIZE: usize = 77;
+// Where each field of an image stands, and how long an image is.
+const TYPE: usize = image::HEAD;
+
+const PLACE: usize = TYPE + 1;
+
+const LEN: usize = PLACE + 8;
+
+const IPV4: usize = LEN + 8;
+
+const IPV6: usize = IPV4 + 4;
+
+pub const SIZE: usize = IPV6 + 16;
 
 // The type as on the wire.
 fn type_byte(kind: NodeIdType) -> u8
@@ -43,30 +54,10 @@ fn type_of(byte: u8) -> NodeIdType
     NodeIdType::Fqdn
 }
 
-// Which of the addresses a record of its type has.
-fn is_ipv4(kind: NodeIdType) -> bool
-    ensures { λ r. ⌜ r ≡ isIpv4 kind ⌝ }
-{
-    match kind {
-        NodeIdType::Ipv4 => true,
-        NodeIdType::Ipv6 => false,
-        NodeIdType::Fqdn => false,
-    }
-}
-
-fn is_ipv6(kind: NodeIdType) -> bool
-    ensures { λ r. ⌜ r ≡ isIpv6 kind ⌝ }
-{
-    match kind {
-        NodeIdType::Ipv4 => false,
-        NodeIdType::Ipv6 => true,
-        NodeIdType::Fqdn => false,
-    }
-}
-
-// Puts the image of a read that is done, from the back to the front. The test tells the compiler what `requires` says, so that no put tests the room again.
+// Puts the image of a read that is done, from the back to the front. The test tells the compiler what `requires` says, so that no
+// put tests the room again.
 fn put_image(out: &mut [u8], used: usize, record: NodeId)
-    requires { ⌜ 77 ≤ length (now out) ⌝ }
+    requires { ⌜ size ≤ length (now out) ⌝ }
     ensures { λ _. ⌜ now (out .exit) ≡ put (now (out .entry)) 0 (head Done used ++ recordImage «record») ⌝ }
 {
     if out.len() < SIZE {
@@ -74,76 +65,46 @@ fn put_image(out: &mut [u8], used: usize, record: NodeId)
     }
     let kind = record.kind;
     let name = record.name;
-    let octets4 = record.ipv4_address;
-    let octets6 = record.ipv6_address;
-    let ipv6_address = MaybeIpv6 {
-        given: is_ipv6(kind),
-        octets: octets6,
-    };
-    let ipv4_address = MaybeIpv4 {
-        given: is_ipv4(kind),
-        octets: octets4,
-    };
-    image::put_ipv6(out, 61, ipv6_address);
-    image::put_ipv4(out, 57, ipv4_address);
-    image::put_u64(out, 49, name.len as u64);
-    image::put_u64(out, 41, name.place as u64);
-    octets::put_byte(out, 40, type_byte(kind));
+    let ipv4_address = record.ipv4_address;
+    let ipv6_address = record.ipv6_address;
+    octets::put_bytes(out, IPV6, &ipv6_address);
+    octets::put_bytes(out, IPV4, &ipv4_address);
+    image::put_u64(out, LEN, name.len as u64);
+    image::put_u64(out, PLACE, name.place as u64);
+    octets::put_byte(out, TYPE, type_byte(kind));
     image::put_head(out, Answer::Done, used);
 }
 
-// Puts the image of a refusal, by its number and values: the used count is 0, and the record is the empty name. Its type is put
-// over the zeros, which then take the fewest stores.
-fn put_refused(out: &mut [u8], number: u64, v0: u64, v1: u64, v2: u64) -> u64
-    requires { ⌜ 77 ≤ length (now out) ⌝ }
-    ensures { λ r. ⌜ r ≡ number ⌝ }
-    ensures { λ r. ⌜ now (out .exit) ≡ put (now (out .entry)) 0 (refusalImage number v0 v1 v2) ⌝ }
+// Puts the image of a refused read, and returns the answer's number. The empty record is the empty name: its type and the zeros
+// behind it, of which seven go into one store with the type.
+fn put_refused(out: &mut [u8], answer: Answer) -> u64
+    requires { ⌜ size ≤ length (now out) ⌝ }
+    ensures { λ r. ⌜ r ≡ numberOf answer ⌝ }
+    ensures { λ r. ⌜ now (out .exit) ≡ put (now (out .entry)) 0 (imageOf (refused answer)) ⌝ }
 {
-    if out.len() < SIZE {
-        return number;
-    }
-    let none = [0u8; 45];
-    octets::put_bytes(out, 32, &none);
-    octets::put_byte(out, 40, 2);
-    image::put_u64(out, 24, v2);
-    image::put_u64(out, 16, v1);
-    image::put_u64(out, 8, v0);
-    image::put_u64(out, 0, number);
-    number
-}
-
-// Puts the refusal of a payload that ends before a needed field.
-fn put_short(out: &mut [u8], field: u8, expected: usize, actual: usize) -> u64
-    requires { ⌜ 77 ≤ length (now out) ⌝ }
-    ensures { λ r. ⌜ r ≡ 1 ⌝ }
-    ensures { λ r. ⌜ now (out .exit) ≡ put (now (out .entry)) 0 (imageOf (refused (Short field expected actual))) ⌝ }
-{
-    put_refused(out, 1, field as u64, expected as u64, actual as u64)
-}
-
-// Puts the refusal of a type that there isn't.
-fn put_type(out: &mut [u8], byte: u8) -> u64
-    requires { ⌜ 77 ≤ length (now out) ⌝ }
-    ensures { λ r. ⌜ r ≡ 3 ⌝ }
-    ensures { λ r. ⌜ now (out .exit) ≡ put (now (out .entry)) 0 (imageOf (refused (NodeType byte))) ⌝ }
-{
-    put_refused(out, 3, byte as u64, 0, 0)
+    octets::put_zeros(out, TYPE + 8, SIZE);
+    image::put_u64(out, TYPE, 2);
+    image::put_report(out, Written { answer, len: 0 })
 }
 
 // A read goes straight into the image, without the record and the copies that `NodeId::unmarshal` makes, by the type.
 
 // Reads a payload of type 0 into an image.
 fn read_ipv4(payload: &[u8], image: &mut [u8]) -> u64
-    requires { ⌜ 77 ≤ length (now image) ⌝ }
-    requires { ⌜ 0 < length (now payload) ⌝ }
-    requires { ⌜ length (now payload) ≤ 65535 ⌝ }
-    requires { ⌜ getD (now payload) 0 0 ≡ 0 ⌝ }
-    ensures { λ r. ⌜ r ≡ numberOf (read (now (payload .entry)) .answer) ⌝ }
-    ensures { λ r. ⌜ now (image .exit) ≡ put (now (image .entry)) 0 (imageOf (read (now (payload .entry)))) ⌝ }
+    requires { ⌜ size ≤ length (now image) ⌝ }
+    ensures { λ r. ⌜ r ≡ numberOf (readIpv4 (now (payload .entry)) .answer) ⌝ }
+    ensures { λ r. ⌜ now (image .exit) ≡ put (now (image .entry)) 0 (imageOf (readIpv4 (now (payload .entry)))) ⌝ }
 {
     let n = payload.len();
     if n < 5 {
-        return put_short(image, 1, 5, n);
+        return put_refused(
+            image,
+            Answer::Short {
+                field: 1,
+                expected: 5,
+                actual: n,
+            },
+        );
     }
     let address = MaybeIpv4::of(&payload[1..5]);
     let octets = address.octets;
@@ -154,16 +115,20 @@ fn read_ipv4(payload: &[u8], image: &mut [u8]) -> u64
 
 // Reads a payload of type 1 into an image.
 fn read_ipv6(payload: &[u8], image: &mut [u8]) -> u64
-    requires { ⌜ 77 ≤ length (now image) ⌝ }
-    requires { ⌜ 0 < length (now payload) ⌝ }
-    requires { ⌜ length (now payload) ≤ 65535 ⌝ }
-    requires { ⌜ getD (now payload) 0 0 ≡ 1 ⌝ }
-    ensures { λ r. ⌜ r ≡ numberOf (read (now (payload .entry)) .answer) ⌝ }
-    ensures { λ r. ⌜ now (image .exit) ≡ put (now (image .entry)) 0 (imageOf (read (now (payload .entry)))) ⌝ }
+    requires { ⌜ size ≤ length (now image) ⌝ }
+    ensures { λ r. ⌜ r ≡ numberOf (readIpv6 (now (payload .entry)) .answer) ⌝ }
+    ensures { λ r. ⌜ now (image .exit) ≡ put (now (image .entry)) 0 (imageOf (readIpv6 (now (payload .entry)))) ⌝ }
 {
     let n = payload.len();
     if n < 17 {
-        return put_short(image, 2, 17, n);
+        return put_refused(
+            image,
+            Answer::Short {
+                field: 2,
+                expected: 17,
+                actual: n,
+            },
+        );
     }
     let address = MaybeIpv6::of(&payload[1..17]);
     let octets = address.octets;
@@ -172,28 +137,27 @@ fn read_ipv6(payload: &[u8], image: &mut [u8]) -> u64
     0
 }
 
-// Reads a payload of type 2 into an image: all behind the type is the name. The only way that calls further, and so the only one with a stack frame.
+// Reads a payload of type 2 into an image: all behind the type is the name. Only here is a function called, and a stack frame
+// needed.
 fn read_name(payload: &[u8], image: &mut [u8]) -> u64
-    requires { ⌜ 77 ≤ length (now image) ⌝ }
+    requires { ⌜ size ≤ length (now image) ⌝ }
     requires { ⌜ 0 < length (now payload) ⌝ }
-    requires { ⌜ length (now payload) ≤ 65535 ⌝ }
-    requires { ⌜ getD (now payload) 0 0 ≡ 2 ⌝ }
-    ensures { λ r. ⌜ r ≡ numberOf (read (now (payload .entry)) .answer) ⌝ }
-    ensures { λ r. ⌜ now (image .exit) ≡ put (now (image .entry)) 0 (imageOf (read (now (payload .entry)))) ⌝ }
+    ensures { λ r. ⌜ r ≡ numberOf (readFqdn (now (payload .entry)) .answer) ⌝ }
+    ensures { λ r. ⌜ now (image .exit) ≡ put (now (image .entry)) 0 (imageOf (readFqdn (now (payload .entry)))) ⌝ }
 {
     let n = payload.len();
     let good = text::well_formed(&payload[1..]);
     if good != n - 1 {
-        return put_refused(image, 4, (1 + good) as u64, 0, 0);
+        return put_refused(image, Answer::NotUtf8 { place: 1 + good });
     }
     let record = NodeId::new_fqdn(1, good);
     put_image(image, n, record);
     0
 }
 
-// The ways of a payload that has its type. One test tells the addresses from the rest, so that both have the fewest.
+// Reads a payload that has its type. One test tells the addresses from the rest, so that both have the fewest.
 fn read_typed(payload: &[u8], image: &mut [u8]) -> u64
-    requires { ⌜ 77 ≤ length (now image) ⌝ }
+    requires { ⌜ size ≤ length (now image) ⌝ }
     requires { ⌜ 0 < length (now payload) ⌝ }
     requires { ⌜ length (now payload) ≤ 65535 ⌝ }
     ensures { λ r. ⌜ r ≡ numberOf (read (now (payload .entry)) .answer) ⌝ }
@@ -209,18 +173,18 @@ fn read_typed(payload: &[u8], image: &mut [u8]) -> u64
     if kind == 2 {
         return read_name(payload, image);
     }
-    put_type(image, kind)
+    put_refused(image, Answer::NodeType { byte: kind })
 }
 
 // The record that stands in an image.
 fn record_at(image: &[u8]) -> NodeId
     ensures { λ r. ⌜ r ≡ recordAt (now (image .entry)) ⌝ }
 {
-    let kind = type_of(image::byte_at(image, 40));
-    let place = image::u64_at(image, 41);
-    let len = image::u64_at(image, 49);
-    let ipv4 = image::ipv4_at(image, 57, true);
-    let ipv6 = image::ipv6_at(image, 61, true);
+    let kind = type_of(image::byte_at(image, TYPE));
+    let place = image::u64_at(image, PLACE);
+    let len = image::u64_at(image, LEN);
+    let ipv4 = image::ipv4_at(image, IPV4, true);
+    let ipv6 = image::ipv6_at(image, IPV6, true);
     let ipv4_address = ipv4.octets;
     let ipv6_address = ipv6.octets;
     NodeId {
@@ -235,26 +199,33 @@ fn record_at(image: &[u8]) -> NodeId
 }
 
 pub fn read(payload: &[u8], image: &mut [u8]) -> u64
-    ensures { λ r. ⌜ r ≡ told 77 (now (image .entry)) (read (now (payload .entry)) .answer) ⌝ }
-    ensures { λ r. ⌜ now (image .exit) ≡ laid 77 (now (image .entry)) (imageOf (read (now (payload .entry)))) ⌝ }
+    ensures { λ r. ⌜ r ≡ readNumber size (now (image .entry)) (read (now (payload .entry)) .answer) ⌝ }
+    ensures { λ r. ⌜ now (image .exit) ≡ readImage size (now (image .entry)) (imageOf (read (now (payload .entry)))) ⌝ }
 {
     if image.len() < SIZE {
         return 8;
     }
     let n = payload.len();
     if 65535 < n {
-        return put_refused(image, 5, n as u64, 0, 0);
+        return put_refused(image, Answer::InputTooLong { length: n });
     }
     if n < 1 {
-        return put_short(image, 0, 1, n);
+        return put_refused(
+            image,
+            Answer::Short {
+                field: 0,
+                expected: 1,
+                actual: n,
+            },
+        );
     }
     read_typed(payload, image)
 }
 
 pub fn write(image: &[u8], texts: &[u8], out: &mut [u8], report: &mut [u8]) -> u64
-    ensures { λ r. ⌜ r ≡ numbered (whole 77 (now (image .entry)) (now (report .entry))) (writes (now (image .entry)) (now (texts .entry)) (now (out .entry))) ⌝ }
-    ensures { λ r. ⌜ now (out .exit) ≡ changed (whole 77 (now (image .entry)) (now (report .entry))) (stores (now (image .entry)) (now (texts .entry)) (now (out .entry))) (now (out .entry)) ⌝ }
-    ensures { λ r. ⌜ now (report .exit) ≡ reported (whole 77 (now (image .entry)) (now (report .entry))) (now (report .entry)) (writes (now (image .entry)) (now (texts .entry)) (now (out .entry))) ⌝ }
+    ensures { λ r. ⌜ r ≡ writeNumber (longEnough size (now (image .entry)) (now (report .entry))) (writes (now (image .entry)) (now (texts .entry)) (now (out .entry))) ⌝ }
+    ensures { λ r. ⌜ now (out .exit) ≡ writeOutput (longEnough size (now (image .entry)) (now (report .entry))) (stores (now (image .entry)) (now (texts .entry)) (now (out .entry))) (now (out .entry)) ⌝ }
+    ensures { λ r. ⌜ now (report .exit) ≡ writeReport (longEnough size (now (image .entry)) (now (report .entry))) (now (report .entry)) (writes (now (image .entry)) (now (texts .entry)) (now (out .entry))) ⌝ }
 {
     if !image::long_enough(SIZE, image.len(), report.len()) {
         return 8;

@@ -7,34 +7,50 @@ use mathlib.Core.Path.{_≡_, refl, sym, ap, ap₂, _∙_}
 use mathlib.Core.Bool.{Bool, true, false, _&&_}
 use mathlib.Core.List.{List, [], _∷_, _++_, append-nil, append-assoc}
 use lib.Arith.{digits-div, digits-mod, digits-lt}
-use lib.ListN.{length, take, drop, getD, set, length-append, length-take, length-drop, take-append-drop, replicate, drop-of-length-le}
+use lib.ListN.{length, take, drop, getD, set, length-append, length-take, length-drop, take-append-drop, replicate, length-replicate, drop-of-length-le}
 use lib.Seq.{take-at, drop-at, drop-drop, length-take-le, take-set-le, set-split, append-snoc, take-length, take-all, drop-cons, take-take, take-add, take-append-seam, drop-append-seam}
 use lib.Pow.{mod-pow-add, shr-shr}
 use lib.Dec.{leb, eqb, lit<, ltb}
 use borrow.Author.Tests.{le-leb, lt-leb, lt-ltb, leb-true, eq-eqb, eqb-false}
 use borrow.Rule.Slice.PartMut.{midOf, putMid}
-use Rattle.octets.specs.Octets.{pick, bit, under, flagByte, Bytes, field, behind, bigEndian, bytesOf, bytesIf, isNumber, u8Of, u16Of, u32Of, numberIf, u8Meaning, u16Meaning, u32Meaning, ipv4Of, ipv6Of, presence, ipv4Meaning, ipv6Meaning, over, put}
+use Rattle.octets.specs.declared.MaybeIpv4.{MaybeIpv4}
+use Rattle.octets.specs.declared.MaybeIpv6.{MaybeIpv6}
+use Rattle.octets.specs.declared.MaybeU8.{MaybeU8}
+use Rattle.octets.specs.declared.MaybeU16.{MaybeU16}
+use Rattle.octets.specs.declared.MaybeU32.{MaybeU32}
+use Rattle.octets.specs.Octets.{pick, bit, ifSet, flagByte, Bytes, field, behind, bigEndian, bigEndianBytes, bytesIf, isNumber, u8Of, u16Of, u32Of, numberIf, u8Meaning, u16Meaning, u32Meaning, ipv4Of, ipv6Of, presence, ipv4Meaning, ipv6Meaning, over, put}
 
 -- ---- flags
-pub under-le : (f : Bool) (n : ℕ) → under f n ≤ n
-unfolding under
-under-le true n = omega arith
-under-le false n = omega arith
+pub ifSet-le : (f : Bool) (n : ℕ) → ifSet f n ≤ n
+unfolding ifSet
+ifSet-le true n = omega arith
+ifSet-le false n = omega arith
+
+-- the width of a part that ends where a field under a flag ends
+pub part-width : (at u w : ℕ) (f : Bool) → u ≡ ifSet f w → at + u - at ≡ ifSet f w
+part-width at u w f e = omega arith
+
+-- what a flag that was read says of its byte, and the byte of the flag
+pub flag-of : (k b : ℕ) (f t : Bool) → f ≡ bit k b → f ≡ t → t ≡ bit k b
+flag-of k b f t d e = sym e ∙ d
+
+pub flag-is : (k b : ℕ) (f t : Bool) → f ≡ bit k b → f ≡ t → bit k b ≡ t
+flag-is k b f t d e = sym d ∙ e
 
 -- a flag's weight in its byte, from the byte that it was read from
-pub bit-weight : (k b n : ℕ) → under (bit k b) n ≡ b / 2 ^ k % 2 * n
-unfolding under
+pub bit-weight : (k b n : ℕ) → ifSet (bit k b) n ≡ b / 2 ^ k % 2 * n
+unfolding ifSet
 bit-weight k b n = either (b / 2 ^ k % 2) (mod-lt (b / 2 ^ k) {m = 2} (lit< tt))
   where
-    either : (x : ℕ) → x < 2 → under (eqb x 1) n ≡ x * n
+    either : (x : ℕ) → x < 2 → ifSet (eqb x 1) n ≡ x * n
     either zero h = omega arith
     either (suc zero) h = omega arith
     either (suc (suc x)) h = absurd (omega arith)
 
-pub under-times : (f : Bool) (n : ℕ) → under f n ≡ under f 1 * n
-unfolding under
-under-times true n = omega arith
-under-times false n = omega arith
+pub ifSet-times : (f : Bool) (n : ℕ) → ifSet f n ≡ ifSet f 1 * n
+unfolding ifSet
+ifSet-times true n = omega arith
+ifSet-times false n = omega arith
 
 -- the flags read from k bits of a byte are those bits: bits j and up of b
 abbrev pub bitsFrom : ℕ → ℕ → ℕ → List Bool
@@ -54,10 +70,10 @@ flags-kept k b = flags-from 0 k b ∙ ap (λ (x : ℕ). x % 2 ^ k) (div-one b)
 
 -- flags that are off behind the others don't count
 pub flags-padded : (fs : List Bool) (k : ℕ) → flagByte (fs ++ replicate k false) ≡ flagByte fs
-unfolding flagByte under
+unfolding flagByte ifSet
 flags-padded [] zero = refl
 flags-padded [] (suc k) = ap (λ (n : ℕ). 0 + 2 * n) (flags-padded [] k)
-flags-padded (f ∷ fs) k = ap (λ (n : ℕ). under f 1 + 2 * n) (flags-padded fs k)
+flags-padded (f ∷ fs) k = ap (λ (n : ℕ). ifSet f 1 + 2 * n) (flags-padded fs k)
 
 -- ---- fields
 pub field-take : (at w n : ℕ) (s : List ℕ) → at + w ≤ n → field (take n s) at w ≡ field s at w
@@ -105,10 +121,10 @@ bytes-each [] h = tt
 bytes-each (b ∷ s) h = (h 0, bytes-each s (λ i. h (suc i)))
 
 -- ---- numbers
-pub length-bytesOf : (w x : ℕ) → length (bytesOf w x) ≡ w
-unfolding bytesOf
-length-bytesOf zero x = refl
-length-bytesOf (suc w) x = omega (arith, length-append (bytesOf w (x / 256)) (x % 256 ∷ []), length-bytesOf w (x / 256))
+pub length-bigEndianBytes : (w x : ℕ) → length (bigEndianBytes w x) ≡ w
+unfolding bigEndianBytes
+length-bigEndianBytes zero x = refl
+length-bigEndianBytes (suc w) x = omega (arith, length-append (bigEndianBytes w (x / 256)) (x % 256 ∷ []), length-bigEndianBytes w (x / 256))
 
 pub behind-append : (n : ℕ) (xs ys : List ℕ) → behind n (xs ++ ys) ≡ behind (behind n xs) ys
 unfolding behind
@@ -143,40 +159,40 @@ bigEndian-less bs b = rw zero-add at (behind-less 0 0 bs (omega arith) b)
     zero-add n = omega arith
 
 -- the bytes of a number made of bytes are those bytes
-bytes-more : (k n x : ℕ) → x < 256 → bytesOf (suc k) (n * 256 + x) ≡ bytesOf k n ++ (x ∷ [])
-unfolding bytesOf
+bytes-more : (k n x : ℕ) → x < 256 → bigEndianBytes (suc k) (n * 256 + x) ≡ bigEndianBytes k n ++ (x ∷ [])
+unfolding bigEndianBytes
 bytes-more k n x h = rw (digits-div n h, digits-mod n h)
 
-pub bytes-behind : (k n : ℕ) (bs : List ℕ) → Bytes bs → bytesOf (k + length bs) (behind n bs) ≡ bytesOf k n ++ bs
+pub bytes-behind : (k n : ℕ) (bs : List ℕ) → Bytes bs → bigEndianBytes (k + length bs) (behind n bs) ≡ bigEndianBytes k n ++ bs
 unfolding behind
 bytes-behind k n [] b = rw (add-zero, append-nil)
 bytes-behind k n (x ∷ bs) b =
-    ap (λ (j : ℕ). bytesOf j (behind (n * 256 + x) bs)) (shift k (length bs))
+    ap (λ (j : ℕ). bigEndianBytes j (behind (n * 256 + x) bs)) (shift k (length bs))
     ∙ bytes-behind (suc k) (n * 256 + x) bs (b .1)
     ∙ rw (bytes-more k n x (b .0), append-snoc)
   where
     shift : (k m : ℕ) → k + suc m ≡ suc k + m
     shift k m = omega arith
 
-pub bytes-number : (bs : List ℕ) → Bytes bs → bytesOf (length bs) (bigEndian bs) ≡ bs
-unfolding bytesOf
-bytes-number bs b = ap (λ (k : ℕ). bytesOf k (bigEndian bs)) (zero-add (length bs)) ∙ bytes-behind 0 0 bs b
+pub bytes-number : (bs : List ℕ) → Bytes bs → bigEndianBytes (length bs) (bigEndian bs) ≡ bs
+unfolding bigEndianBytes
+bytes-number bs b = ap (λ (k : ℕ). bigEndianBytes k (bigEndian bs)) (zero-add (length bs)) ∙ bytes-behind 0 0 bs b
   where
     zero-add : (n : ℕ) → n ≡ 0 + n
     zero-add n = omega arith
 
-pub bytes-field : (at w : ℕ) (s : List ℕ) → Bytes s → at + w ≤ length s → bytesOf w (bigEndian (field s at w)) ≡ field s at w
+pub bytes-field : (at w : ℕ) (s : List ℕ) → Bytes s → at + w ≤ length s → bigEndianBytes w (bigEndian (field s at w)) ≡ field s at w
 bytes-field at w s b h =
-    ap (λ (k : ℕ). bytesOf k (bigEndian (field s at w))) (sym (length-field at w s h))
+    ap (λ (k : ℕ). bigEndianBytes k (bigEndian (field s at w))) (sym (length-field at w s h))
     ∙ bytes-number (field s at w) (bytes-take w (drop at s) (bytes-drop at s b))
 
 -- a number that has its bytes is read back from them
-pub number-bytes : (w x : ℕ) → x < 256 ^ w → bigEndian (bytesOf w x) ≡ x
-unfolding behind bytesOf
+pub number-bytes : (w x : ℕ) → x < 256 ^ w → bigEndian (bigEndianBytes w x) ≡ x
+unfolding behind bigEndianBytes
 number-bytes zero x h = omega (arith, pow-zero 256)
 number-bytes (suc w) x h =
     let h′ : x / 256 < 256 ^ w = div-lt-iff-lt-mul {k = 256} (lit< tt) .1 (rw pow-suc at h) in
-    behind-append 0 (bytesOf w (x / 256)) (x % 256 ∷ []) ∙ rw (number-bytes w (x / 256) h′) (div-add-mod' x 256)
+    behind-append 0 (bigEndianBytes w (x / 256)) (x % 256 ∷ []) ∙ rw (number-bytes w (x / 256) h′) (div-add-mod' x 256)
 
 -- the digits of four bytes, least significant first
 module _ (a b c d x : ℕ) (ha : a < 256) (hb : b < 256) (hc : c < 256) (e : x ≡ a + b * 256 + c * 65536 + d * 16777216) where
@@ -211,11 +227,11 @@ module _ (a b c d x : ℕ) (ha : a < 256) (hb : b < 256) (hc : c < 256) (e : x �
 weights : (a b c d : ℕ) → a * 16777216 + b * 65536 + c * 256 + d ≡ ((a * 256 + b) * 256 + c) * 256 + d
 weights a b c d = omega arith
 
--- and turned round
-pub turned-four : (a b c d x r : ℕ) → a < 256 → b < 256 → c < 256 → x ≡ a + b * 256 + c * 65536 + d * 16777216
+-- and with the bytes swapped
+pub swapped-four : (a b c d x r : ℕ) → a < 256 → b < 256 → c < 256 → x ≡ a + b * 256 + c * 65536 + d * 16777216
     → r ≡ x % 256 * 16777216 + x / 256 % 256 * 65536 + x / 65536 % 256 * 256 + x / 16777216
     → r ≡ ((a * 256 + b) * 256 + c) * 256 + d
-turned-four a b c d x r ha hb hc e q =
+swapped-four a b c d x r ha hb hc e q =
     q ∙ rw (digit-one a b c d x ha hb hc e, digit-two a b c d x ha hb hc e, digit-three a b c d x ha hb hc e, digit-four a b c d x ha hb hc e) (weights a b c d)
 
 -- what `number` gives of four and of eight bytes
@@ -242,9 +258,9 @@ number-eight (a ∷ b ∷ c ∷ d ∷ e ∷ f ∷ g ∷ []) x y q p r = absurd (
 number-eight (a ∷ b ∷ c ∷ d ∷ e ∷ f ∷ g ∷ h ∷ i ∷ l) x y q p r = absurd (omega arith)
 
 -- and that it is a number of so many bytes
-pub number-told : (bs : List ℕ) (x n : ℕ) → length bs ≡ n → n ≤ 8 → ((i : ℕ) → getD bs i 0 < 256) → x ≡ bigEndian bs
+pub number-equals : (bs : List ℕ) (x n : ℕ) → length bs ≡ n → n ≤ 8 → ((i : ℕ) → getD bs i 0 < 256) → x ≡ bigEndian bs
     → (x ≡ pick (leb (length bs) 8) (bigEndian bs) 0) × (x < 256 ^ length bs)
-number-told bs x n e h each q =
+number-equals bs x n e h each q =
     (rw (le-leb (length bs) 8 (omega arith)) q, rw q (bigEndian-less bs (bytes-each bs each)))
 
 -- what `number` gives of a field of at most eight bytes
@@ -271,21 +287,21 @@ module _ (w : ℕ) (bs : List ℕ) (t : Bool) (e : t ≡ isNumber w bs) (q : t �
   pub number-is : (x : ℕ) → w ≤ 8 → x ≡ pick (leb (length bs) 8) (bigEndian bs) 0 → x ≡ bigEndian bs
   number-is x h p = rw (le-leb (length bs) 8 (omega (arith, few))) at p
 
-pub number-length : (g : Bool) (w x : ℕ) → length (numberIf w (presence g x)) ≡ under g w
-unfolding numberIf presence under
-number-length true w x = length-bytesOf w x
+pub number-length : (g : Bool) (w x : ℕ) → length (numberIf w (presence g x)) ≡ ifSet g w
+unfolding numberIf presence ifSet
+number-length true w x = length-bigEndianBytes w x
 number-length false w x = refl
 
 -- a number that was read is written as it stood, where its field has its width w or none
-module _ (f : Bool) (w : ℕ) (bs : List ℕ) (b : Bytes bs) (h : 0 < w) (e : length bs ≡ under f w) where
-  number-there : (m : ℕ) → w ≤ m → (g : Bool) → g ≡ f → length bs ≡ under g w → isNumber m bs ≡ f
-  unfolding under
+module _ (f : Bool) (w : ℕ) (bs : List ℕ) (b : Bytes bs) (h : 0 < w) (e : length bs ≡ ifSet f w) where
+  number-there : (m : ℕ) → w ≤ m → (g : Bool) → g ≡ f → length bs ≡ ifSet g w → isNumber m bs ≡ f
+  unfolding ifSet
   number-there m k true q e = rw (e, lt-ltb 0 w h, le-leb w m k) q
   number-there m k false q e = rw e q
 
-  number-back : (g : Bool) → g ≡ f → length bs ≡ under g w → numberIf w (presence f (bigEndian bs)) ≡ bs
-  unfolding numberIf presence under
-  number-back true q e = rw (← q) (ap (λ (k : ℕ). bytesOf k (bigEndian bs)) (sym e) ∙ bytes-number bs b)
+  number-back : (g : Bool) → g ≡ f → length bs ≡ ifSet g w → numberIf w (presence f (bigEndian bs)) ≡ bs
+  unfolding numberIf presence ifSet
+  number-back true q e = rw (← q) (ap (λ (k : ℕ). bigEndianBytes k (bigEndian bs)) (sym e) ∙ bytes-number bs b)
   number-back false q e = rw (← q) (empty bs e)
     where
       empty : (bs : List ℕ) → length bs ≡ 0 → [] ≡ bs
@@ -296,40 +312,34 @@ module _ (f : Bool) (w : ℕ) (bs : List ℕ) (b : Bytes bs) (h : 0 < w) (e : le
   pub number-again : numberIf w (presence f (bigEndian bs)) ≡ bs
   number-again = number-back f refl e
 
+  -- of one of two, one that is given and one that is absent
+  means-either : {R : Type 0} (given : R → Bool) (value : R → ℕ) (x y : R) → given x ≡ true → value x ≡ bigEndian bs → given y ≡ false → (t : Bool) → presence (given (pick t x y)) (value (pick t x y)) ≡ presence t (bigEndian bs)
+  unfolding presence
+  means-either given value x y gx vx gy true = rw (gx, vx)
+  means-either given value x y gx vx gy false = rw gy
+
   pub u8-bytes : w ≤ 1 → numberIf w (u8Meaning (u8Of bs)) ≡ bs
-  unfolding u8Of presence
-  u8-bytes k = rw (number-there 1 k f refl e) (ap (numberIf w) (go f) ∙ number-back f refl e)
-    where
-      go : (t : Bool) → u8Meaning (pick t (record { given = true; value = bigEndian bs }) (record { given = false; value = 0 })) ≡ presence t (bigEndian bs)
-      go true = refl
-      go false = refl
+  unfolding u8Of
+  u8-bytes k = rw (number-there 1 k f refl e) (ap (numberIf w) (means-either (λ (x : MaybeU8). x .given) (λ (x : MaybeU8). x .value) _ _ refl refl refl f) ∙ number-back f refl e)
 
   pub u16-bytes : w ≤ 2 → numberIf w (u16Meaning (u16Of bs)) ≡ bs
-  unfolding u16Of presence
-  u16-bytes k = rw (number-there 2 k f refl e) (ap (numberIf w) (go f) ∙ number-back f refl e)
-    where
-      go : (t : Bool) → u16Meaning (pick t (record { given = true; value = bigEndian bs }) (record { given = false; value = 0 })) ≡ presence t (bigEndian bs)
-      go true = refl
-      go false = refl
+  unfolding u16Of
+  u16-bytes k = rw (number-there 2 k f refl e) (ap (numberIf w) (means-either (λ (x : MaybeU16). x .given) (λ (x : MaybeU16). x .value) _ _ refl refl refl f) ∙ number-back f refl e)
 
   pub u32-bytes : w ≤ 4 → numberIf w (u32Meaning (u32Of bs)) ≡ bs
-  unfolding u32Of presence
-  u32-bytes k = rw (number-there 4 k f refl e) (ap (numberIf w) (go f) ∙ number-back f refl e)
-    where
-      go : (t : Bool) → u32Meaning (pick t (record { given = true; value = bigEndian bs }) (record { given = false; value = 0 })) ≡ presence t (bigEndian bs)
-      go true = refl
-      go false = refl
+  unfolding u32Of
+  u32-bytes k = rw (number-there 4 k f refl e) (ap (numberIf w) (means-either (λ (x : MaybeU32). x .given) (λ (x : MaybeU32). x .value) _ _ refl refl refl f) ∙ number-back f refl e)
 
 -- ---- addresses
-pub given-length : (g : Bool) (n : ℕ) (bs : List ℕ) → length bs ≡ n → length (bytesIf (presence g bs)) ≡ under g n
-unfolding bytesIf under presence
+pub given-length : (g : Bool) (n : ℕ) (bs : List ℕ) → length bs ≡ n → length (bytesIf (presence g bs)) ≡ ifSet g n
+unfolding bytesIf ifSet presence
 given-length true n bs e = e
 given-length false n bs e = refl
 
 -- an address that was read is written as it stood, where its field has its width or none
 module _ (f : Bool) (bs : List ℕ) where
-  some-or-none : (n : ℕ) → length bs ≡ under f (suc n) → (t : Bool) → eqb (length bs) (suc n) ≡ t → pick t bs [] ≡ bs
-  unfolding under
+  some-or-none : (n : ℕ) → length bs ≡ ifSet f (suc n) → (t : Bool) → eqb (length bs) (suc n) ≡ t → pick t bs [] ≡ bs
+  unfolding ifSet
   some-or-none n e true q = refl
   some-or-none n e false q = sym (empty f bs e q)
     where
@@ -338,21 +348,19 @@ module _ (f : Bool) (bs : List ℕ) where
       empty false [] e q = refl
       empty false (b ∷ bs) e q = absurd (omega arith)
 
-  pub ipv4-bytes : length bs ≡ under f 4 → bytesIf (ipv4Meaning (ipv4Of bs)) ≡ bs
-  unfolding ipv4Of presence bytesIf
-  ipv4-bytes e = go (eqb (length bs) 4) refl
-    where
-      go : (t : Bool) → eqb (length bs) 4 ≡ t → bytesIf (ipv4Meaning (pick t (record { given = true; octets = bs }) (record { given = false; octets = replicate 4 0 }))) ≡ bs
-      go true q = refl
-      go false q = some-or-none 3 e false q
+  bytes-either : {R : Type 0} (given : R → Bool) (octets : R → List ℕ) (x y : R) (n : ℕ) → given x ≡ true → octets x ≡ bs → given y ≡ false → length bs ≡ ifSet f (suc n) → (t : Bool) → eqb (length bs) (suc n) ≡ t
+      → bytesIf (presence (given (pick t x y)) (octets (pick t x y))) ≡ bs
+  unfolding presence bytesIf
+  bytes-either given octets x y n gx ox gy e true q = rw (gx, ox)
+  bytes-either given octets x y n gx ox gy e false q = rw gy (some-or-none n e false q)
 
-  pub ipv6-bytes : length bs ≡ under f 16 → bytesIf (ipv6Meaning (ipv6Of bs)) ≡ bs
-  unfolding ipv6Of presence bytesIf
-  ipv6-bytes e = go (eqb (length bs) 16) refl
-    where
-      go : (t : Bool) → eqb (length bs) 16 ≡ t → bytesIf (ipv6Meaning (pick t (record { given = true; octets = bs }) (record { given = false; octets = replicate 16 0 }))) ≡ bs
-      go true q = refl
-      go false q = some-or-none 15 e false q
+  pub ipv4-bytes : length bs ≡ ifSet f 4 → bytesIf (ipv4Meaning (ipv4Of bs)) ≡ bs
+  unfolding ipv4Of
+  ipv4-bytes e = bytes-either (λ (x : MaybeIpv4). x .given) (λ (x : MaybeIpv4). x .octets) _ _ 3 refl refl refl e (eqb (length bs) 4) refl
+
+  pub ipv6-bytes : length bs ≡ ifSet f 16 → bytesIf (ipv6Meaning (ipv6Of bs)) ≡ bs
+  unfolding ipv6Of
+  ipv6-bytes e = bytes-either (λ (x : MaybeIpv6). x .given) (λ (x : MaybeIpv6). x .octets) _ _ 15 refl refl refl e (eqb (length bs) 16) refl
 
 -- the bytes of an address that is there
 pub ipv4-octets : (bs : List ℕ) → length bs ≡ 4 → ipv4Of bs .octets ≡ bs
@@ -399,6 +407,15 @@ put-fits d at bs h = rw (le-leb _ _ h)
 pub put-not : (d : List ℕ) (at : ℕ) (bs : List ℕ) → length d < at + length bs → put d at bs ≡ d
 unfolding put
 put-not d at bs h = rw (lt-leb _ _ h)
+
+-- a put changes no length
+pub length-put : (d : List ℕ) (at : ℕ) (bs : List ℕ) → length (put d at bs) ≡ length d
+unfolding put
+length-put d at bs = either (leb (at + length bs) (length d)) (leb-true _ _)
+  where
+    either : (t : Bool) → (t ≡ true → at + length bs ≤ length d) → length (pick t (over d at bs) d) ≡ length d
+    either true h = length-over d at bs (h refl)
+    either false h = refl
 
 pub put-put : (d : List ℕ) (at m : ℕ) (xs ys : List ℕ) → m ≡ at + length xs → m + length ys ≤ length d → put (put d at xs) m ys ≡ put d at (xs ++ ys)
 put-put d at m xs ys e h =
@@ -459,18 +476,41 @@ put-set d at b h =
     ∙ over-set d at 0 b [] refl (omega arith)
     ∙ sym (put-fits d at (b ∷ []) (omega arith))
 
+-- zeros from a place on, up to another: one more is stored, they fit where the second is within the output, and don't where it isn't
+pub zeros-step : (d : List ℕ) (i e : ℕ) → i < e → e ≤ length d → over (set d i 0) (i + 1) (replicate (e - (i + 1)) 0) ≡ over d i (replicate (e - i) 0)
+zeros-step d i e h r =
+    let zs : List ℕ = replicate (e - (i + 1)) 0 in
+    let more : e - i ≡ suc (e - (i + 1)) = omega arith in
+    ap (λ (l : List ℕ). over l (i + 1) zs) (put-set d i 0 (omega arith) ∙ put-fits d i (0 ∷ []) (omega arith))
+    ∙ over-over d i (i + 1) (0 ∷ []) zs refl (omega (arith, length-replicate {A = ℕ} (e - (i + 1)) 0))
+    ∙ ap (λ (n : ℕ). over d i (replicate n 0)) (sym more)
+
+pub zeros-all : (d : List ℕ) (at e : ℕ) → e ≤ length d → over d at (replicate (e - at) 0) ≡ put d at (replicate (e - at) 0)
+zeros-all d at e h = go (e - at) refl
+  where
+    go : (n : ℕ) → e - at ≡ n → over d at (replicate n 0) ≡ put d at (replicate n 0)
+    go zero q = over-nil d at ∙ sym (put-nil d at)
+    go (suc n) q = sym (put-fits d at (replicate (suc n) 0) (omega (arith, length-replicate {A = ℕ} (suc n) 0)))
+
+pub zeros-not : (d : List ℕ) (at e : ℕ) → length d < e → d ≡ put d at (replicate (e - at) 0)
+zeros-not d at e h = go (e - at) refl
+  where
+    go : (n : ℕ) → e - at ≡ n → d ≡ put d at (replicate n 0)
+    go zero q = sym (put-nil d at)
+    go (suc n) q = sym (put-not d at (replicate (suc n) 0) (omega (arith, length-replicate {A = ℕ} (suc n) 0)))
+
 -- a number's lowest byte stored, the rest is still to be written
-pub over-number : (d : List ℕ) (at w x : ℕ) → 0 < w → at + w ≤ length d → over (set d (at + (w - 1)) (x % 256)) at (bytesOf (w - 1) (x / 256)) ≡ over d at (bytesOf w x)
-unfolding bytesOf
+pub over-number : (d : List ℕ) (at w x : ℕ) → 0 < w → at + w ≤ length d → over (set d (at + (w - 1)) (x % 256)) at (bigEndianBytes (w - 1) (x / 256)) ≡ over d at (bigEndianBytes w x)
+unfolding bigEndianBytes
 over-number d at zero x h r = absurd (not-suc-le-zero h)
 over-number d at (suc w) x h r =
-    rw (less w) (over-set d at w (x % 256) (bytesOf w (x / 256)) (length-bytesOf w (x / 256)) (omega arith))
+    rw (less w) (over-set d at w (x % 256) (bigEndianBytes w (x / 256)) (length-bigEndianBytes w (x / 256)) (omega arith))
   where
     less : (w : ℕ) → suc w - 1 ≡ w
     less w = omega arith
 
-pub over-none : (d : List ℕ) (at w x : ℕ) → w ≤ 0 → over d at (bytesOf w x) ≡ d
-unfolding bytesOf
+pub over-none : (d : List ℕ) (at w x : ℕ) → w ≤ 0 → over d at (bigEndianBytes w x) ≡ d
+unfolding bigEndianBytes
 over-none d at zero x h = over-nil d at
 over-none d at (suc w) x h = absurd (not-suc-le-zero h)
 

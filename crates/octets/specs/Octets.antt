@@ -21,13 +21,13 @@ abbrev pub bit : ℕ → ℕ → Bool
 bit k b = eqb (b / 2 ^ k % 2) 1
 
 -- a number where a flag is set, 0 where it isn't: a field's width, or what a flag adds to its byte
-unfoldable pub under : Bool → ℕ → ℕ
-under f n = pick f n 0
+unfoldable pub ifSet : Bool → ℕ → ℕ
+ifSet f n = pick f n 0
 
 -- a byte of flags, bit 0 first
 unfoldable pub flagByte : List Bool → ℕ
 flagByte [] = 0
-flagByte (f ∷ fs) = under f 1 + 2 * flagByte fs
+flagByte (f ∷ fs) = ifSet f 1 + 2 * flagByte fs
 
 -- a list whose elements are all bytes
 abbrev pub Bytes : List ℕ → Type 0
@@ -48,9 +48,9 @@ abbrev pub bigEndian : List ℕ → ℕ
 bigEndian bs = behind 0 bs
 
 -- the lowest w bytes of a number, most significant first
-unfoldable pub bytesOf : ℕ → ℕ → List ℕ
-bytesOf zero x = []
-bytesOf (suc w) x = bytesOf w (x / 256) ++ (x % 256 ∷ [])
+unfoldable pub bigEndianBytes : ℕ → ℕ → List ℕ
+bigEndianBytes zero x = []
+bigEndianBytes (suc w) x = bigEndianBytes w (x / 256) ++ (x % 256 ∷ [])
 
 -- the address of just these bytes, absent (and zero) where they are another number of bytes
 unfoldable pub ipv4Of : List ℕ → MaybeIpv4
@@ -99,7 +99,7 @@ bytesIf (some bs) = bs
 -- the w bytes of a number that may be absent
 unfoldable pub numberIf : ℕ → Option ℕ → List ℕ
 numberIf w none = []
-numberIf w (some x) = bytesOf w x
+numberIf w (some x) = bigEndianBytes w x
 
 -- an output with these bytes from a place on
 unfoldable pub over : List ℕ → ℕ → List ℕ → List ℕ

@@ -2,10 +2,10 @@
 ghost use mathlib.Core.Path.{_≡_};
 ghost use mathlib.Core.List.{_∷_, []};
 ghost use mathlib.Core.Bool.{true, _&&_, _||_};
-ghost use Prim.Native.Nat.{_+_, _*_, _/_, _%_, _≤_, _<_, _^_};
-ghost use lib.ListN.{length, getD};
+ghost use Prim.Native.Nat.{_+_, _-_, _*_, _/_, _%_, _≤_, _<_, _^_};
+ghost use lib.ListN.{length, getD, replicate};
 ghost use lib.Dec.{leb};
-ghost use Rattle.octets.specs.Octets.{pick, bit, under, flagByte, bigEndian, bytesOf, isNumber, ipv4Of, ipv6Of, u8Of, u16Of, u32Of, presence, ipv4Meaning, ipv6Meaning, bytesIf, numberIf, put};
+ghost use Rattle.octets.specs.Octets.{pick, bit, ifSet, flagByte, bigEndian, bigEndianBytes, isNumber, ipv4Of, ipv6Of, u8Of, u16Of, u32Of, presence, ipv4Meaning, ipv6Meaning, bytesIf, numberIf, put};
 
 // An IPv4 address that may be absent.
 pub struct MaybeIpv4 {
@@ -46,14 +46,14 @@ pub fn bit(b: u8, k: u8) -> bool
 }
 
 // A number where a flag is set, 0 where it isn't.
-pub fn under(flag: bool, n: usize) -> usize
-    ensures { λ r. ⌜ r ≡ under flag n ⌝ }
+pub fn if_set(flag: bool, n: usize) -> usize
+    ensures { λ r. ⌜ r ≡ ifSet flag n ⌝ }
     ensures { λ r. ⌜ r ≤ n ⌝ }
 {
     if flag { n } else { 0 }
 }
 
-// Two flags joined, in calls of their own, so that the ways through a function don't part there.
+// Two flags joined, in calls of their own, so that a function doesn't branch where it asks.
 pub fn both(a: bool, b: bool) -> bool
     ensures { λ r. ⌜ r ≡ a && b ⌝ }
 {
@@ -79,42 +79,42 @@ pub fn flag_byte(
 ) -> u8
     ensures { λ r. ⌜ r ≡ flagByte (f0 ∷ f1 ∷ f2 ∷ f3 ∷ f4 ∷ f5 ∷ f6 ∷ f7 ∷ []) ⌝ }
 {
-    let low = under(f0, 1) + under(f1, 2) + under(f2, 4) + under(f3, 8);
-    let high = under(f4, 16) + under(f5, 32) + under(f6, 64) + under(f7, 128);
+    let low = if_set(f0, 1) + if_set(f1, 2) + if_set(f2, 4) + if_set(f3, 8);
+    let high = if_set(f4, 16) + if_set(f5, 32) + if_set(f6, 64) + if_set(f7, 128);
     (low + high) as u8
 }
 
 // The number of four bytes, least significant first: the compiler makes one load of it.
-fn joined(b0: u8, b1: u8, b2: u8, b3: u8) -> u32
+fn from_little_endian(b0: u8, b1: u8, b2: u8, b3: u8) -> u32
     ensures { λ r. ⌜ r ≡ b0 + b1 * 256 + b2 * 65536 + b3 * 16777216 ⌝ }
 {
     b0 as u32 + b1 as u32 * 256 + b2 as u32 * 65536 + b3 as u32 * 16777216
 }
 
-fn low(bs: &[u8], at: usize) -> u32
+fn load_little_endian(bs: &[u8], at: usize) -> u32
     requires { ⌜ at + 4 ≤ length (now bs) ⌝ }
     ensures { λ r. ⌜ r ≡ getD (now (bs .entry)) at 0 + getD (now (bs .entry)) (at + 1) 0 * 256 + getD (now (bs .entry)) (at + 2) 0 * 65536 + getD (now (bs .entry)) (at + 3) 0 * 16777216 ⌝ }
 {
-    joined(bs[at], bs[at + 1], bs[at + 2], bs[at + 3])
+    from_little_endian(bs[at], bs[at + 1], bs[at + 2], bs[at + 3])
 }
 
 // Its bytes the other way round: the compiler makes one byte swap of it.
-fn turned(x: u32) -> u32
+fn swap_bytes(x: u32) -> u32
     ensures { λ r. ⌜ r ≡ x % 256 * 16777216 + x / 256 % 256 * 65536 + x / 65536 % 256 * 256 + x / 16777216 ⌝ }
 {
     x % 256 * 16777216 + x / 256 % 256 * 65536 + x / 65536 % 256 * 256 + x / 16777216
 }
 
 // The number of four bytes from a place on.
-fn four(bs: &[u8], at: usize) -> u32
+fn load_big_endian(bs: &[u8], at: usize) -> u32
     requires { ⌜ at + 4 ≤ length (now bs) ⌝ }
     ensures { λ r. ⌜ r ≡ ((getD (now (bs .entry)) at 0 * 256 + getD (now (bs .entry)) (at + 1) 0) * 256 + getD (now (bs .entry)) (at + 2) 0) * 256 + getD (now (bs .entry)) (at + 3) 0 ⌝ }
 {
-    turned(low(bs, at))
+    swap_bytes(load_little_endian(bs, at))
 }
 
 // The number of any bytes, one after the other.
-fn summed(bs: &[u8]) -> u64
+fn fold_big_endian(bs: &[u8]) -> u64
     ensures { λ r. ⌜ r ≡ pick (leb (length (now (bs .entry))) 8) (bigEndian (now (bs .entry))) 0 ⌝ }
     ensures { λ r. ⌜ r < 256 ^ length (now (bs .entry)) ⌝ }
 {
@@ -136,12 +136,12 @@ pub fn number(bs: &[u8]) -> u64
     ensures { λ r. ⌜ r < 256 ^ length (now (bs .entry)) ⌝ }
 {
     if bs.len() == 8 {
-        return four(bs, 0) as u64 * 4294967296 + four(bs, 4) as u64;
+        return load_big_endian(bs, 0) as u64 * 4294967296 + load_big_endian(bs, 4) as u64;
     }
     if bs.len() == 4 {
-        return four(bs, 0) as u64;
+        return load_big_endian(bs, 0) as u64;
     }
-    summed(bs)
+    fold_big_endian(bs)
 }
 
 impl MaybeIpv4 {
@@ -313,9 +313,23 @@ pub fn put_byte(out: &mut [u8], at: usize, b: u8)
     }
 }
 
+// Puts zeros from a place on, up to another.
+pub fn put_zeros(out: &mut [u8], at: usize, end: usize)
+    ensures { λ r. ⌜ now (out .exit) ≡ put (now (out .entry)) at (replicate (end - at) 0) ⌝ }
+{
+    if out.len() < end {
+        return;
+    }
+    let mut i = at;
+    while i < end {
+        out[i] = 0;
+        i += 1;
+    }
+}
+
 // Puts a number at a place, as w bytes.
 pub fn put_number(out: &mut [u8], at: usize, w: usize, x: u64)
-    ensures { λ r. ⌜ now (out .exit) ≡ put (now (out .entry)) at (bytesOf w x) ⌝ }
+    ensures { λ r. ⌜ now (out .exit) ≡ put (now (out .entry)) at (bigEndianBytes w x) ⌝ }
 {
     if out.len() < w {
         return;

@@ -1,1 +1,2 @@
 pub mod OuterHeaderCreation
+pub mod Steps

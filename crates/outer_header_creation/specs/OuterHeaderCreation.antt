@@ -1,6 +1,6 @@
 -- Outer Header Creation, as document 01 has it.
-use Prim.Native.Nat.{ℕ, _+_, _%_, _^_, _≤_}
-use mathlib.Core.Bool.{Bool, true, false, _&&_, _||_}
+use Prim.Native.Nat.{ℕ, _+_, _%_, _^_}
+use mathlib.Core.Bool.{Bool, true, false, _||_}
 use mathlib.Core.List.{List, [], _∷_, flatten}
 use mathlib.Core.Option.{Option, none, some}
 use lib.ListN.{getD, replicate}
@@ -12,13 +12,12 @@ use Rattle.octets.specs.declared.MaybeIpv4.{MaybeIpv4}
 use Rattle.octets.specs.declared.MaybeIpv6.{MaybeIpv6}
 use Rattle.octets.specs.declared.MaybeU16.{MaybeU16}
 use Rattle.octets.specs.declared.MaybeU32.{MaybeU32}
-use Rattle.octets.specs.Octets.{pick, bit, under, flagByte, field, bytesOf, bytesIf, numberIf, ipv4Of, ipv6Of, u16Of, u32Of, presence, ipv4Meaning, ipv6Meaning, u16Meaning, u32Meaning}
+use Rattle.octets.specs.Octets.{pick, bit, ifSet, flagByte, field, bigEndianBytes, bytesIf, numberIf, ipv4Of, ipv6Of, u16Of, u32Of, presence, ipv4Meaning, ipv6Meaning, u16Meaning, u32Meaning}
 use Rattle.kind.specs.Layout.{Wanted, wanted, Layout, Outcome, accepts, refuses, outcome}
 use Rattle.kind.specs.Kind.{Reader}
 use Rattle.outer_header_creation.specs.declared.OuterHeaderCreationFlags.{OuterHeaderCreationFlags}
 use Rattle.outer_header_creation.specs.declared.OuterHeaderCreation.{OuterHeaderCreation}
-use Rattle.outer_header_creation.specs.declared.Sent.{Sent}
-use Rattle.outer_header_creation.specs.declared.Ends.{Ends}
+use Rattle.outer_header_creation.specs.declared.SentFields.{SentFields}
 use Rattle.outer_header_creation.specs.declared.OuterHeaderCreationRead.{OuterHeaderCreationRead}
 
 abbrev pub Flags : Type 0
@@ -47,7 +46,7 @@ byteOf f =
     (f .«gtpu_udp_ipv4» ∷ f .«gtpu_udp_ipv6» ∷ f .«udp_ipv4» ∷ f .«udp_ipv6» ∷ f .ipv4 ∷ f .ipv6 ∷ f .ctag ∷ f .stag ∷ [])
 
 -- the fields that they ask for
-abbrev pub asked : Flags → Sent
+abbrev pub asked : Flags → SentFields
 asked f =
     record {
       teid = f .«gtpu_udp_ipv4» || f .«gtpu_udp_ipv6»;
@@ -96,79 +95,53 @@ wire v =
     byteOf (v .flags)
     ∷ 0
     ∷ flatten
-    (sentIf (a .teid) (bytesOf 4 (orZero (v .teid)))
+    (sentIf (a .teid) (bigEndianBytes 4 (orZero (v .teid)))
     ∷ sentIf (a .ipv4) (bytesIf (v .ipv4))
     ∷ sentIf (a .ipv6) (bytesIf (v .ipv6))
-    ∷ sentIf (a .port) (bytesOf 2 (orZero (v .port)))
+    ∷ sentIf (a .port) (bigEndianBytes 2 (orZero (v .port)))
     ∷ sentIf (a .ctag) (numberIf 3 (v .ctag))
     ∷ sentIf (a .stag) (numberIf 3 (v .stag))
     ∷ [])
 
--- the fields that are written: those that the flags ask for, an address or a tag only where it is given
-abbrev pub sends : OuterHeaderCreation → Sent
-sends r =
-    let a = asked (r .description) in
-    record {
-      teid = a .teid;
-      ipv4 = a .ipv4 && r .«ipv4_address» .given;
-      ipv6 = a .ipv6 && r .«ipv6_address» .given;
-      port = a .port;
-      ctag = a .ctag && r .ctag .given;
-      stag = a .stag && r .stag .given;
-    }
-
 -- ---- reading
 
 -- the fields behind the first two bytes, in their order
-abbrev pub fieldsOf : Sent → List Wanted
+abbrev pub fieldsOf : SentFields → List Wanted
 fieldsOf a = wanted 6 (a .teid) 4 ∷ wanted 1 (a .ipv4) 4 ∷ wanted 2 (a .ipv6) 16 ∷ wanted 7 (a .port) 2 ∷ wanted 8 (a .ctag) 3 ∷ wanted 9 (a .stag) 3 ∷ []
 
 -- no flags are forbidden
 abbrev pub layout : Layout
 layout = record { head = 2; rule = λ b. 0; fields = λ b. fieldsOf (asked (flagsOf b)) }
 
+-- how long the written form of a value that was read is at most, with every field; at least it is as long as the head
+abbrev pub maxLen : ℕ
+maxLen = 2 + 4 + 4 + 16 + 2 + 3 + 3
+
 -- all of byte 0 is kept, byte 1 is ignored
-abbrev pub kept : List ℕ
-kept = 8 ∷ 0 ∷ []
-
--- where each field ends
-unfoldable pub endsOf : Sent → Ends
-endsOf a =
-    let teid = 2 + under (a .teid) 4 in
-    let ipv4 = teid + under (a .ipv4) 4 in
-    let ipv6 = ipv4 + under (a .ipv6) 16 in
-    let port = ipv6 + under (a .port) 2 in
-    let ctag = port + under (a .ctag) 3 in
-    let stag = ctag + under (a .stag) 3 in
-    record { teid = teid; ipv4 = ipv4; ipv6 = ipv6; port = port; ctag = ctag; stag = stag }
-
--- each end at or behind the one before
-pub record Rising (e : Ends) : Type 0 where
-  pub teid : 2 ≤ e .teid
-  pub ipv4 : e .teid ≤ e .ipv4
-  pub ipv6 : e .ipv4 ≤ e .ipv6
-  pub port : e .ipv6 ≤ e .port
-  pub ctag : e .port ≤ e .ctag
-  pub stag : e .ctag ≤ e .stag
-  pub last : e .stag ≤ 34
+abbrev pub keptBits : List ℕ
+keptBits = 8 ∷ 0 ∷ []
 
 -- the TEID of these bytes, absent (and 0) where there are none
 unfoldable pub teidOf : List ℕ → MaybeTeid
 teidOf bs = record { given = u32Of bs .given; value = record { 0 = u32Of bs .value } }
 
--- the record of a payload that has all the fields that these flags ask for
+-- the record of a payload that has all the fields that these flags ask for, each directly behind the one before
 unfoldable pub recordWith : Flags → List ℕ → OuterHeaderCreation
 recordWith f s =
     let a = asked f in
-    let e = endsOf a in
+    let ipv4At = 2 + ifSet (a .teid) 4 in
+    let ipv6At = ipv4At + ifSet (a .ipv4) 4 in
+    let portAt = ipv6At + ifSet (a .ipv6) 16 in
+    let ctagAt = portAt + ifSet (a .port) 2 in
+    let stagAt = ctagAt + ifSet (a .ctag) 3 in
     record {
       description = f;
-      teid = teidOf (field s 2 (under (a .teid) 4));
-      «ipv4_address» = ipv4Of (field s (e .teid) (under (a .ipv4) 4));
-      «ipv6_address» = ipv6Of (field s (e .ipv4) (under (a .ipv6) 16));
-      «port_number» = u16Of (field s (e .ipv6) (under (a .port) 2));
-      ctag = u32Of (field s (e .port) (under (a .ctag) 3));
-      stag = u32Of (field s (e .ctag) (under (a .stag) 3));
+      teid = teidOf (field s 2 (ifSet (a .teid) 4));
+      «ipv4_address» = ipv4Of (field s ipv4At (ifSet (a .ipv4) 4));
+      «ipv6_address» = ipv6Of (field s ipv6At (ifSet (a .ipv6) 16));
+      «port_number» = u16Of (field s portAt (ifSet (a .port) 2));
+      ctag = u32Of (field s ctagAt (ifSet (a .ctag) 3));
+      stag = u32Of (field s stagAt (ifSet (a .stag) 3));
     }
 
 abbrev pub recordOf : List ℕ → OuterHeaderCreation

@@ -8,12 +8,14 @@ use octets::MaybeU32;
 use types::MaybeTeid;
 use types::Teid;
 ghost use mathlib.Core.Path.{_≡_};
-ghost use Prim.Native.Nat.{_≤_, _<_};
-ghost use lib.ListN.{length, getD};
+ghost use Prim.Native.Nat.{_≤_};
+ghost use lib.ListN.{length};
 ghost use Rattle.octets.specs.Octets.{put};
 ghost use Rattle.answer.specs.declared.Answer.the-variants.{Short};
 ghost use Rattle.answer.specs.Paper.{written};
-ghost use Rattle.outer_header_creation.specs.OuterHeaderCreation.{flagsOf, byteOf, asked, sends, endsOf, Rising, meaning, wire, teidOf, untagged, bare, gtpuIpv4, gtpuIpv6, udpIpv4, withCtag, withStag, recordWith, read, refused};
+ghost use Rattle.kind.specs.Layout.{walk};
+ghost use Rattle.outer_header_creation.specs.OuterHeaderCreation.{flagsOf, byteOf, asked, fieldsOf, meaning, wire, maxLen, teidOf, untagged, bare, gtpuIpv4, gtpuIpv6, udpIpv4, withCtag, withStag, recordWith, read, refused};
+ghost use Rattle.outer_header_creation.specs.Steps.{endsOf, Rising, answerOf, sends};
 
 // What the outer header is to have.
 pub struct OuterHeaderCreationFlags {
@@ -44,44 +46,83 @@ pub struct OuterHeaderCreationRead {
     pub record: OuterHeaderCreation,
 }
 
-// Which of the fields are in a payload.
-struct Sent {
-    teid: bool,
-    ipv4: bool,
-    ipv6: bool,
-    port: bool,
-    ctag: bool,
-    stag: bool,
+// Which of the fields are in a payload, or in a written form.
+pub struct SentFields {
+    pub teid: bool,
+    pub ipv4: bool,
+    pub ipv6: bool,
+    pub port: bool,
+    pub ctag: bool,
+    pub stag: bool,
 }
 
 // Where each field ends.
-struct Ends {
-    teid: usize,
-    ipv4: usize,
-    ipv6: usize,
-    port: usize,
-    ctag: usize,
-    stag: usize,
+pub struct FieldEnds {
+    pub teid: usize,
+    pub ipv4: usize,
+    pub ipv6: usize,
+    pub port: usize,
+    pub ctag: usize,
+    pub stag: usize,
 }
 
-// The ends of the fields in a row, behind the two bytes that come first.
-fn ends_of(sent: Sent) -> Ends
-    ensures { λ r. ⌜ r ≡ endsOf sent ⌝ }
-    ensures { λ r. ⌜ Rising r ⌝ }
+// The answer where a field isn't all there.
+fn short(field: u8, expected: usize, actual: usize) -> Answer
+    ensures { λ r. ⌜ r ≡ Short field expected actual ⌝ }
 {
-    let teid = OuterHeaderCreation::MIN_LEN + octets::under(sent.teid, 4);
-    let ipv4 = teid + octets::under(sent.ipv4, 4);
-    let ipv6 = ipv4 + octets::under(sent.ipv6, 16);
-    let port = ipv6 + octets::under(sent.port, 2);
-    let ctag = port + octets::under(sent.ctag, 3);
-    let stag = ctag + octets::under(sent.stag, 3);
-    Ends {
-        teid,
-        ipv4,
-        ipv6,
-        port,
-        ctag,
-        stag,
+    Answer::Short {
+        field,
+        expected,
+        actual,
+    }
+}
+
+impl SentFields {
+    // The ends of the fields in a row, behind the two bytes that come first.
+    pub fn ends(self) -> FieldEnds
+        ensures { λ r. ⌜ r ≡ endsOf self ⌝ }
+        ensures { λ r. ⌜ Rising r ⌝ }
+    {
+        let teid = OuterHeaderCreation::MIN_LEN + octets::if_set(self.teid, 4);
+        let ipv4 = teid + octets::if_set(self.ipv4, 4);
+        let ipv6 = ipv4 + octets::if_set(self.ipv6, 16);
+        let port = ipv6 + octets::if_set(self.port, 2);
+        let ctag = port + octets::if_set(self.ctag, 3);
+        let stag = ctag + octets::if_set(self.stag, 3);
+        FieldEnds {
+            teid,
+            ipv4,
+            ipv6,
+            port,
+            ctag,
+            stag,
+        }
+    }
+
+    // What a payload of n bytes with these fields is answered: done, or the first field that isn't all there.
+    pub fn answer(self, n: usize) -> Answer
+        ensures { λ r. ⌜ r ≡ answerOf (walk n 2 (fieldsOf self)) ⌝ }
+    {
+        let ends = self.ends();
+        if ends.stag <= n {
+            return Answer::Done;
+        }
+        if n < ends.teid {
+            return short(6, ends.teid, n);
+        }
+        if n < ends.ipv4 {
+            return short(1, ends.ipv4, n);
+        }
+        if n < ends.ipv6 {
+            return short(2, ends.ipv6, n);
+        }
+        if n < ends.port {
+            return short(7, ends.port, n);
+        }
+        if n < ends.ctag {
+            return short(8, ends.ctag, n);
+        }
+        short(9, ends.stag, n)
     }
 }
 
@@ -100,7 +141,7 @@ fn teid_of(bs: &[u8]) -> MaybeTeid
 fn record_of(
     payload: &[u8],
     description: OuterHeaderCreationFlags,
-    ends: Ends,
+    ends: FieldEnds,
 ) -> OuterHeaderCreation
     requires { ⌜ ends ≡ endsOf (asked description) ⌝ }
     requires { ⌜ Rising ends ⌝ }
@@ -140,79 +181,6 @@ fn refused(answer: Answer) -> OuterHeaderCreationRead
         used: 0,
         record,
     }
-}
-
-// The answer where a field isn't all there.
-fn short(field: u8, expected: usize, actual: usize) -> Answer
-    ensures { λ r. ⌜ r ≡ Short field expected actual ⌝ }
-{
-    Answer::Short {
-        field,
-        expected,
-        actual,
-    }
-}
-
-// The answer where not all the fields are there: the first that isn't.
-fn cut(payload: &[u8], ends: Ends) -> Answer
-    requires { ⌜ length (now payload) ≤ 65535 ⌝ }
-    requires { ⌜ 2 ≤ length (now payload) ⌝ }
-    requires { ⌜ ends ≡ endsOf (asked (flagsOf (getD (now payload) 0 0))) ⌝ }
-    requires { ⌜ length (now payload) < ends .stag ⌝ }
-    ensures { λ r. ⌜ r ≡ read (now (payload .entry)) .answer ⌝ }
-{
-    let n = payload.len();
-    let end_teid = ends.teid;
-    if n < end_teid {
-        return short(6, end_teid, n);
-    }
-    let end_ipv4 = ends.ipv4;
-    if n < end_ipv4 {
-        return short(1, end_ipv4, n);
-    }
-    let end_ipv6 = ends.ipv6;
-    if n < end_ipv6 {
-        return short(2, end_ipv6, n);
-    }
-    let end_port = ends.port;
-    if n < end_port {
-        return short(7, end_port, n);
-    }
-    let end_ctag = ends.ctag;
-    if n < end_ctag {
-        return short(8, end_ctag, n);
-    }
-    let end_stag = ends.stag;
-    short(9, end_stag, n)
-}
-
-// The first byte, 0 where there is none.
-fn first(payload: &[u8]) -> u8
-    ensures { λ r. ⌜ r ≡ getD (now (payload .entry)) 0 0 ⌝ }
-{
-    if payload.len() == 0 {
-        return 0;
-    }
-    payload[0]
-}
-
-// The answer, where the ends of the fields are known: they are found once for the answer and the record.
-fn verdict(payload: &[u8], ends: Ends) -> Answer
-    requires { ⌜ ends ≡ endsOf (asked (flagsOf (getD (now payload) 0 0))) ⌝ }
-    ensures { λ r. ⌜ r ≡ read (now (payload .entry)) .answer ⌝ }
-{
-    let n = payload.len();
-    if 65535 < n {
-        return Answer::TooLong { length: n };
-    }
-    if n < OuterHeaderCreation::MIN_LEN {
-        return short(0, OuterHeaderCreation::MIN_LEN, n);
-    }
-    let end_stag = ends.stag;
-    if n < end_stag {
-        return cut(payload, ends);
-    }
-    Answer::Done
 }
 
 impl OuterHeaderCreationFlags {
@@ -267,7 +235,7 @@ impl OuterHeaderCreationFlags {
     }
 
     // The flags of byte 0.
-    fn of(b: u8) -> OuterHeaderCreationFlags
+    pub fn of(b: u8) -> OuterHeaderCreationFlags
         ensures { λ r. ⌜ r ≡ flagsOf b ⌝ }
     {
         OuterHeaderCreationFlags {
@@ -283,7 +251,7 @@ impl OuterHeaderCreationFlags {
     }
 
     // Byte 0 of the flags.
-    fn byte(self) -> u8
+    pub fn byte(self) -> u8
         ensures { λ r. ⌜ r ≡ byteOf self ⌝ }
     {
         octets::flag_byte(
@@ -299,10 +267,10 @@ impl OuterHeaderCreationFlags {
     }
 
     // The fields that the flags ask for.
-    fn asked(self) -> Sent
+    pub fn asked(self) -> SentFields
         ensures { λ r. ⌜ r ≡ asked self ⌝ }
     {
-        Sent {
+        SentFields {
             teid: octets::either(self.gtpu_udp_ipv4, self.gtpu_udp_ipv6),
             ipv4: octets::either(octets::either(self.gtpu_udp_ipv4, self.udp_ipv4), self.ipv4),
             ipv6: octets::either(octets::either(self.gtpu_udp_ipv6, self.udp_ipv6), self.ipv6),
@@ -318,6 +286,13 @@ impl OuterHeaderCreation {
     pub const MIN_LEN: usize = 2;
 
     pub const MAX_LEN: usize = 34;
+
+    // The second as a promise: a constant has none. `unmarshal` promises the first.
+    pub fn max_len() -> usize
+        ensures { λ r. ⌜ r ≡ maxLen ⌝ }
+    {
+        OuterHeaderCreation::MAX_LEN
+    }
 
     // A record of these parts, without tags.
     fn untagged(
@@ -416,39 +391,40 @@ impl OuterHeaderCreation {
         self
     }
 
-    // What reading a payload answers, without the record.
-    pub fn answer(payload: &[u8]) -> Answer
-        ensures { λ r. ⌜ r ≡ read (now (payload .entry)) .answer ⌝ }
-    {
-        let description = OuterHeaderCreationFlags::of(first(payload));
-        let ends = ends_of(description.asked());
-        verdict(payload, ends)
-    }
-
     pub fn unmarshal(payload: &[u8]) -> OuterHeaderCreationRead
         ensures { λ r. ⌜ r ≡ read (now (payload .entry)) ⌝ }
     {
-        let description = OuterHeaderCreationFlags::of(first(payload));
-        let ends = ends_of(description.asked());
-        let answer = verdict(payload, ends);
-        if answer.number() != 0 {
-            return refused(answer);
+        let n = payload.len();
+        if 65535 < n {
+            return refused(Answer::InputTooLong { length: n });
         }
-        let end_stag = ends.stag;
+        if n < OuterHeaderCreation::MIN_LEN {
+            return refused(Answer::Short {
+                field: 0,
+                expected: OuterHeaderCreation::MIN_LEN,
+                actual: n,
+            });
+        }
+        let description = OuterHeaderCreationFlags::of(payload[0]);
+        let sent = description.asked();
+        let ends = sent.ends();
+        if n < ends.stag {
+            return refused(sent.answer(n));
+        }
         OuterHeaderCreationRead {
             answer: Answer::Done,
-            used: end_stag,
+            used: ends.stag,
             record: record_of(payload, description, ends),
         }
     }
 
     // The fields that are written: those that the flags ask for, an address or a tag only where it is given.
-    fn sends(self) -> Sent
+    fn sends(self) -> SentFields
         ensures { λ r. ⌜ r ≡ sends self ⌝ }
     {
         let description = self.description;
         let asked = description.asked();
-        Sent {
+        SentFields {
             teid: asked.teid,
             ipv4: octets::both(asked.ipv4, self.ipv4_address.given),
             ipv6: octets::both(asked.ipv6, self.ipv6_address.given),
@@ -462,13 +438,13 @@ impl OuterHeaderCreation {
         ensures { λ r. ⌜ r ≡ written (length (wire (meaning self))) (length (now (out .entry))) ⌝ }
         ensures { λ r. ⌜ now (out .exit) ≡ put (now (out .entry)) 0 (wire (meaning self)) ⌝ }
     {
-        let teid = octets::under(self.teid.given, self.teid.value.0 as usize) as u64;
-        let port = octets::under(self.port_number.given, self.port_number.value as usize) as u64;
+        let teid = octets::if_set(self.teid.given, self.teid.value.0 as usize) as u64;
+        let port = octets::if_set(self.port_number.given, self.port_number.value as usize) as u64;
         let ctag = self.ctag.value as u64;
         let stag = self.stag.value as u64;
         let description = self.description;
         let sends = self.sends();
-        let ends = ends_of(sends);
+        let ends = sends.ends();
         let len = ends.stag;
         if out.len() < len {
             return Written {

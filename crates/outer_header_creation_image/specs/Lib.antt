@@ -1,1 +1,2 @@
 pub mod OuterHeaderCreationImage
+pub mod Steps

@@ -1,4 +1,4 @@
-pub mod Chain
+pub mod Returns
 pub mod Written
 pub mod Meant
 pub mod Answers

@@ -10,7 +10,7 @@ use Rattle.octets.specs.Octets.{Bytes}
 use Rattle.kind.specs.Write.{_then_, _then_}
 use Rattle.text_fields.specs.Fields.{bad}
 use Rattle.pfd_contents.specs.PfdContents.{tested, wire, meaning}
-use Rattle.pfd_contents.specs.Steps.{form}
+use Rattle.pfd_contents.specs.Steps.{wireByRuns}
 use Rattle.pfd_contents.specs.declared.PfdContents.{PfdContents}
 use Rattle.text_fields.proofs.Meant.{list-wire}
 
@@ -27,8 +27,8 @@ good k false h = let z : _≡_ {A = ℕ} 0 1 = cc in absurd (omega arith)
 
 module _ (s : List ℕ) where
   -- a record whose fields all can be is written as its texts and its runs
-  pub formed : Bytes s → (r : PfdContents) → tested s r ≡ none → form s r ≡ wire (meaning s r)
-  unfolding tested form wire meaning
+  pub formed : Bytes s → (r : PfdContents) → tested s r ≡ none → wireByRuns s r ≡ wire (meaning s r)
+  unfolding tested wireByRuns wire meaning
   formed b r h =
       let t₁ = passed-then _ _ h in
       let t₂ = passed-then _ _ (t₁ .1) in

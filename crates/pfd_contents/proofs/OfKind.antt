@@ -9,7 +9,7 @@ use lib.Dec.{leb}
 use lib.ListN.{length, getD, take}
 use lib.Seq.{length-take-le, take-all}
 use borrow.Author.Tests.{le-leb, leb-true}
-use Rattle.answer.specs.declared.Answer.the-variants.{Done, Short, TooLong}
+use Rattle.answer.specs.declared.Answer.the-variants.{Done, Short, InputTooLong}
 use Rattle.octets.specs.Octets.{pick, bit, Bytes, field}
 use Rattle.octets.proofs.Laws.{bytes-take}
 use Rattle.kind.specs.Kind.{Reads, Kind}
@@ -19,7 +19,7 @@ use Rattle.kind.specs.Demand3.{Demand3}
 use Rattle.kind.proofs.Demand3.{demand3}
 use Rattle.kind.specs.Write.{_then_}
 use Rattle.text_fields.specs.Fields.{Step, took, broke, text, list, isMaybe, isList, textMeaning, listMeaning}
-use Rattle.pfd_contents.specs.PfdContents.{_into_, refused, readFields, read, accepted, pfdOf, wire, meaning, tested, Value, reader, refusal}
+use Rattle.pfd_contents.specs.PfdContents.{_into_, refused, readFields, read, accepted, pfdOf, wire, meaning, tested, Value, reader, writeRefusal}
 use Rattle.text_fields.specs.declared.MaybeText.{MaybeText}
 use Rattle.text_fields.specs.declared.TextList.{TextList}
 use Rattle.pfd_contents.specs.declared.PfdContents.{PfdContents}
@@ -193,7 +193,7 @@ unfolding read refused
 tests s h = go (leb (length s) 65535) (leb 2 (length s)) refl refl h
   where
     go : (a c : Bool) → leb (length s) 65535 ≡ a → leb 2 (length s) ≡ c
-        → pick a (pick c (readFields s (getD s 0 0)) (refused (Short 0 2 (length s)))) (refused (TooLong (length s))) .answer ≡ Done
+        → pick a (pick c (readFields s (getD s 0 0)) (refused (Short 0 2 (length s)))) (refused (InputTooLong (length s))) .answer ≡ Done
         → (length s ≤ 65535) × (2 ≤ length s) × (read s ≡ readFields s (getD s 0 0))
     go true true p q h = (leb-true _ _ p, leb-true _ _ q, rw (p, q))
     go true false p q h = let z : _≡_ {A = ℕ} 0 1 = cc in absurd (omega arith)
@@ -204,10 +204,10 @@ unfolding read
 long-enough s h k = rw (le-leb _ _ h, le-leb _ _ k)
 
 -- the flags whole and the spare byte cleared
-abbrev kept : List ℕ
-kept = 8 ∷ 0 ∷ []
+abbrev keptBits : List ℕ
+keptBits = 8 ∷ 0 ∷ []
 
-cleared : (s : List ℕ) (n : ℕ) → Bytes s → 2 ≤ n → n ≤ length s → clear kept (take n s) ≡ getD s 0 0 ∷ 0 ∷ field s 2 (n - 2)
+cleared : (s : List ℕ) (n : ℕ) → Bytes s → 2 ≤ n → n ≤ length s → clear keptBits (take n s) ≡ getD s 0 0 ∷ 0 ∷ field s 2 (n - 2)
 unfolding clear
 cleared [] n b h k = absurd (omega arith)
 cleared (f ∷ []) n b h k = absurd (omega arith)
@@ -241,7 +241,7 @@ module _ {s : List ℕ} {v : Value} {n : ℕ} (r : Reads reader s v n) where
   within : n ≤ length s
   within = rw is-used at (end .within)
 
-  pub rewritten : wire v ≡ clear kept (take n s)
+  pub rewritten : wire v ≡ clear keptBits (take n s)
   rewritten =
       ap wire (sym is-value)
       ∙ end .writes
@@ -249,21 +249,21 @@ module _ {s : List ℕ} {v : Value} {n : ℕ} (r : Reads reader s v n) where
       ∙ sym (cleared s n (r .bytes) from within)
 
   -- what was read can be written: neither 5 nor 6 nor 7
-  pub writable : refusal s (read s .«record») ≡ none
-  unfolding refusal _then_
+  pub writable : writeRefusal s (read s .«record») ≡ none
+  unfolding writeRefusal _then_
   writable =
       let e : read s .«record» ≡ end .r = ap (λ (x : PfdContentsRead). x .«record») is-read in
       let l : length (wire (meaning s (end .r))) ≡ n =
-      ap length (ap wire is-value ∙ rewritten) ∙ length-clear kept (take n s) ∙ length-take-le n s within in
+      ap length (ap wire is-value ∙ rewritten) ∙ length-clear keptBits (take n s) ∙ length-take-le n s within in
       let h : n ≤ 65535 = upto within (limits .0) in
       rw (e, le-leb _ _ (limits .0), end .able, l, le-leb n 65535 h)
 
-  pub read-again : Reads reader (clear kept (take n s)) v (length (clear kept (take n s)))
+  pub read-again : Reads reader (clear keptBits (take n s)) v (length (clear keptBits (take n s)))
   read-again =
-      let t = clear kept (take n s) in
-      let l : length t ≡ n = length-clear kept (take n s) ∙ length-take-le n s within in
+      let t = clear keptBits (take n s) in
+      let l : length t ≡ n = length-clear keptBits (take n s) ∙ length-take-le n s within in
       let all : take n t ≡ t = take-all n t (omega arith) in
-      let alike : Alike kept n s t = record { left = within; right = omega arith; equal = rw all (clear-clear kept (take n s)) } in
+      let alike : Alike keptBits n s t = record { left = within; right = omega arith; equal = rw all (clear-clear keptBits (take n s)) } in
       let cut : Cut (end .n) s t = rw is-used (record { size = l; within = within; alike = λ at w h k. alike-field alike at w h k }) in
       let first : getD t 0 0 ≡ getD s 0 0 = ap (λ (x : List ℕ). getD x 0 0) (cleared s n (r .bytes) from within) in
       let short : length t ≤ 65535 = omega (arith, limits .0, within) in
@@ -271,7 +271,7 @@ module _ {s : List ℕ} {v : Value} {n : ℕ} (r : Reads reader s v n) where
       let same : read t ≡ read s = long-enough t short two ∙ ap (readFields t) first ∙ end .again cut .0 ∙ sym is-read in
       rw l
       (record {
-        bytes = bytes-clear kept (take n s) (bytes-take n s (r .bytes));
+        bytes = bytes-clear keptBits (take n s) (bytes-take n s (r .bytes));
         done = ap (λ (x : PfdContentsRead). x .answer) same ∙ r .done;
         value = ap (λ (x : PfdContentsRead). meaning t (x .«record»)) (same ∙ is-read) ∙ end .again cut .1 ∙ is-value;
         used = ap (λ (x : PfdContentsRead). x .used) same ∙ r .used;
@@ -282,7 +282,7 @@ kind =
     record {
       Value = Value;
       reader = reader;
-      clear = clear kept;
+      clear = clear keptBits;
       wire = wire;
       short = λ r. limits r .0;
       written = rewritten;

@@ -7,7 +7,7 @@ use lib.ListN.{length}
 use Rattle.answer.specs.declared.Answer.{Answer}
 use Rattle.answer.specs.declared.Answer.the-variants.{Done, Unbuilt}
 use Rattle.octets.specs.Octets.{pick, flagByte}
-use Rattle.kind.specs.Write.{_then_, lent}
+use Rattle.kind.specs.Write.{_then_, tooLongInput}
 use Rattle.text_fields.specs.Fields.{noText, noList, list, isEmpty}
 use Rattle.pfd_contents.specs.PfdContents.{pfdOf, tested, emptyPfd}
 use Rattle.text_fields.specs.declared.MaybeText.{MaybeText}
@@ -89,13 +89,13 @@ any [] = false
 any (f ∷ fs) = f || any fs
 
 -- each flag is set just there
-unfoldable pub recordOf : PfdContentsBuilder → PfdContents
-recordOf b =
+unfoldable pub builtRecord : PfdContentsBuilder → PfdContents
+builtRecord b =
     pfdOf (flagByte (present b)) (b .«flow_description») (b .url) (b .«domain_name») (b .«custom_pfd_content») (b .«domain_name_protocol») (b .«additional_flow_description») (b .«additional_url») (b .«additional_domain_name_and_protocol»)
 
 -- 5, 6, then 9 with rule 6 for no field and no list entry
 unfoldable pub buildRefusal : List ℕ → PfdContentsBuilder → Option Answer
-buildRefusal texts b = lent (length texts) then tested texts (recordOf b) then pick (any (present b)) none (some (Unbuilt 6))
+buildRefusal texts b = tooLongInput (length texts) then tested texts (builtRecord b) then pick (any (present b)) none (some (Unbuilt 6))
 
 -- a refused build: the empty record
 abbrev pub unbuilt : Answer → PfdContentsBuilt
@@ -106,4 +106,4 @@ builtBy none r = record { answer = Done; «record» = r }
 builtBy (some a) r = unbuilt a
 
 unfoldable pub built : List ℕ → PfdContentsBuilder → PfdContentsBuilt
-built texts b = builtBy (buildRefusal texts b) (recordOf b)
+built texts b = builtBy (buildRefusal texts b) (builtRecord b)

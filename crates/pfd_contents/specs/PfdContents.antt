@@ -6,17 +6,15 @@ use mathlib.Core.Option.{Option}
 use lib.Dec.{leb}
 use lib.ListN.{length, getD}
 use Rattle.answer.specs.declared.Answer.{Answer}
-use Rattle.answer.specs.declared.Answer.the-variants.{Done, Short, NotUtf8, TooLong}
+use Rattle.answer.specs.declared.Answer.the-variants.{Done, Short, InputTooLong}
 use Rattle.octets.specs.Octets.{pick, bit}
 use Rattle.kind.specs.Kind.{Reader}
-use Rattle.kind.specs.Write.{_then_, lent, wide}
-use Rattle.text_fields.specs.Fields.{text, textMeaning, listMeaning, list, textWire, listWire, noText, noList, Step, took, broke, bad, isMaybe, isList}
+use Rattle.kind.specs.Write.{_then_, tooLongInput, tooLongOutput}
+use Rattle.text_fields.specs.Fields.{text, textMeaning, listMeaning, list, textWire, listWire, noText, noList, answerOf, Step, took, broke, bad, isMaybe, isList}
 use Rattle.text_fields.specs.declared.MaybeText.{MaybeText}
 use Rattle.text_fields.specs.declared.TextList.{TextList}
 use Rattle.pfd_contents.specs.declared.PfdContents.{PfdContents}
 use Rattle.pfd_contents.specs.declared.read.PfdContentsRead.{PfdContentsRead}
-use Rattle.text_fields.specs.declared.Fault.{Fault}
-use Rattle.text_fields.specs.declared.Fault.the-variants.{Past, Garbled}
 
 -- ---- what a record means
 
@@ -87,11 +85,6 @@ refused a = record { answer = a; used = 0; «record» = emptyPfd }
 abbrev pub accepted : ℕ → PfdContents → PfdContentsRead
 accepted n r = record { answer = Done; used = n; «record» = r }
 
--- 1 with field 10 for a length past the end, 4 for a text that isn't UTF-8
-abbrev pub answerOf : Fault → Answer
-answerOf (Past end len) = Short 10 end len
-answerOf (Garbled place) = NotUtf8 place
-
 -- a fault ends the reading
 infixr 10 _into_
 abbrev pub _into_ : {A : Type 0} → Step A → (A → ℕ → PfdContentsRead) → PfdContentsRead
@@ -113,7 +106,7 @@ readFields s f =
 
 -- the tests in their order: 5, the two bytes that come first, the fields
 unfoldable pub read : List ℕ → PfdContentsRead
-read s = pick (leb (length s) 65535) (pick (leb 2 (length s)) (readFields s (getD s 0 0)) (refused (Short 0 2 (length s)))) (refused (TooLong (length s)))
+read s = pick (leb (length s) 65535) (pick (leb 2 (length s)) (readFields s (getD s 0 0)) (refused (Short 0 2 (length s)))) (refused (InputTooLong (length s)))
 
 abbrev pub reader : Reader Value
 reader = record { answer = λ s. read s .answer; used = λ s. read s .used; value = λ s. meaning s (read s .«record») }
@@ -133,5 +126,5 @@ tested texts r =
     then bad 18 (isList texts (r .«additional_domain_name_and_protocol»))
 
 -- what is tested before room: 5, 6, 7
-unfoldable pub refusal : List ℕ → PfdContents → Option Answer
-refusal texts r = lent (length texts) then tested texts r then wide (length (wire (meaning texts r)))
+unfoldable pub writeRefusal : List ℕ → PfdContents → Option Answer
+writeRefusal texts r = tooLongInput (length texts) then tested texts r then tooLongOutput (length (wire (meaning texts r)))

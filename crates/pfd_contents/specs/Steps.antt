@@ -1,4 +1,4 @@
--- What the private functions of the reader and the writer promise: nothing here is the paper's.
+-- What the private functions of the writer promise: nothing here is the paper's.
 use Prim.Native.Nat.{ℕ}
 use mathlib.Core.List.{List, [], _∷_, _++_}
 use mathlib.Core.Option.{Option, none, some}
@@ -7,20 +7,11 @@ use Rattle.octets.specs.Octets.{pick}
 use Rattle.answer.specs.declared.Answer.{Answer}
 use Rattle.answer.specs.declared.Answer.the-variants.{BadText}
 use Rattle.text_fields.specs.Steps.{textBytes, runBytes}
-use Rattle.pfd_contents.specs.PfdContents.{accepted, refused, answerOf}
 use Rattle.pfd_contents.specs.declared.PfdContents.{PfdContents}
-use Rattle.pfd_contents.specs.declared.read.PfdContentsRead.{PfdContentsRead}
-use Rattle.text_fields.specs.declared.Walk.{Walk}
-use Rattle.text_fields.specs.declared.Walk.the-variants.{At, Stopped}
-
--- the reading in which a walk ends
-unfoldable pub finished : Walk → PfdContents → PfdContentsRead
-finished (At at) r = accepted at r
-finished (Stopped fault) r = refused (answerOf fault)
 
 -- the written form with each list as the run that it is
-unfoldable pub form : List ℕ → PfdContents → List ℕ
-form texts r =
+unfoldable pub wireByRuns : List ℕ → PfdContents → List ℕ
+wireByRuns texts r =
     (r .flags ∷ 0 ∷ [])
     ++ textBytes texts (r .«flow_description»)
     ++ textBytes texts (r .url)

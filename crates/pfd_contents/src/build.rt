@@ -5,7 +5,7 @@ use text_fields::MaybeText;
 use text_fields::TextList;
 ghost use mathlib.Core.Path.{_≡_};
 ghost use Rattle.text_fields.specs.Fields.{textOf, added};
-ghost use Rattle.pfd_contents.specs.Builder.{fresh, withFlow, withUrl, withDomain, withCustom, withProtocol, withFlows, withUrls, withNames, recordOf, unbuilt, built, addedTo};
+ghost use Rattle.pfd_contents.specs.Builder.{fresh, withFlow, withUrl, withDomain, withCustom, withProtocol, withFlows, withUrls, withNames, builtRecord, unbuilt, built, addedTo};
 
 // The fields of a record to be. Which of them are present makes its flags.
 pub struct PfdContentsBuilder {
@@ -33,7 +33,7 @@ pub struct PfdContentsBuilt {
 
 // The record of a builder: each flag where its field is present or its list has an entry.
 fn with_flags(b: PfdContentsBuilder) -> PfdContents
-    ensures { λ r. ⌜ r ≡ recordOf b ⌝ }
+    ensures { λ r. ⌜ r ≡ builtRecord b ⌝ }
 {
     let flow_description = b.flow_description;
     let url = b.url;
@@ -215,7 +215,7 @@ impl PfdContentsBuilder {
     {
         let n = texts.len();
         if 65535 < n {
-            return unbuilt(Answer::TooLong { length: n });
+            return unbuilt(Answer::InputTooLong { length: n });
         }
         let record = with_flags(self);
         let bad = crate::write::bad_field(texts, record);

@@ -1,4 +1,5 @@
-// The PFD Contents payload: texts that may be absent and lists of texts, each by its place in a lent slice, the payload itself after reading.
+// The PFD Contents payload: texts that may be absent and lists of texts, each by its place in a lent slice, the payload itself
+// after reading.
 mod build;
 mod read;
 mod write;

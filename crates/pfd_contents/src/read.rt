@@ -1,14 +1,11 @@
 // The reader: a row of eight steps, each from where the one before it came to.
 use crate::PfdContents;
 use answer::Answer;
-use text_fields::Fault;
 use text_fields::MaybeText;
 use text_fields::TextList;
 use text_fields::Walk;
 ghost use mathlib.Core.Path.{_≡_};
-ghost use mathlib.Core.Bool.{_||_};
-ghost use Rattle.pfd_contents.specs.PfdContents.{answerOf, refused, readFields, read};
-ghost use Rattle.pfd_contents.specs.Steps.{finished};
+ghost use Rattle.pfd_contents.specs.PfdContents.{refused, readFields, read};
 
 // What reading a payload answers; the record is empty where it is refused.
 pub struct PfdContentsRead {
@@ -28,41 +25,7 @@ fn refused(answer: Answer) -> PfdContentsRead
     }
 }
 
-// The answer to a fault.
-fn answer_of(fault: Fault) -> Answer
-    ensures { λ r. ⌜ r ≡ answerOf fault ⌝ }
-{
-    match fault {
-        Fault::Past { end, len } => Answer::Short {
-            field: 10,
-            expected: end,
-            actual: len,
-        },
-        Fault::Garbled { place } => Answer::NotUtf8 { place },
-    }
-}
-
-// Where the walk ends, the used count is.
-fn finish(w: Walk, record: PfdContents) -> PfdContentsRead
-    ensures { λ r. ⌜ r ≡ finished w «record» ⌝ }
-{
-    match w {
-        Walk::At(used) => PfdContentsRead {
-            answer: Answer::Done,
-            used,
-            record,
-        },
-        Walk::Stopped(fault) => refused(answer_of(fault)),
-    }
-}
-
-fn either(a: bool, b: bool) -> bool
-    ensures { λ r. ⌜ r ≡ (a || b) ⌝ }
-{
-    a || b
-}
-
-// The eight fields in wire order.
+// The eight fields in wire order, behind the flags and the spare byte. Where the walk ends, the used count is.
 fn read_fields(payload: &[u8], flags: u8) -> PfdContentsRead
     ensures { λ r. ⌜ r ≡ readFields (now (payload .entry)) flags ⌝ }
 {
@@ -78,7 +41,7 @@ fn read_fields(payload: &[u8], flags: u8) -> PfdContentsRead
     walk = custom.walk;
     let protocol = MaybeText::read(payload, walk, flags, 4);
     walk = protocol.walk;
-    let flows_later = either(urls_too, names_too);
+    let flows_later = octets::either(urls_too, names_too);
     let flows = TextList::read(payload, walk, flags, 5, flows_later);
     walk = flows.walk;
     let urls = TextList::read(payload, walk, flags, 6, names_too);
@@ -93,20 +56,25 @@ fn read_fields(payload: &[u8], flags: u8) -> PfdContentsRead
     let additional_flow_description = flows.list;
     let additional_url = urls.list;
     let additional_domain_name_and_protocol = names.list;
-    finish(
-        walk,
-        PfdContents {
-            flags,
-            flow_description,
-            url,
-            domain_name,
-            custom_pfd_content,
-            domain_name_protocol,
-            additional_flow_description,
-            additional_url,
-            additional_domain_name_and_protocol,
+    let record = PfdContents {
+        flags,
+        flow_description,
+        url,
+        domain_name,
+        custom_pfd_content,
+        domain_name_protocol,
+        additional_flow_description,
+        additional_url,
+        additional_domain_name_and_protocol,
+    };
+    match walk {
+        Walk::At(used) => PfdContentsRead {
+            answer: Answer::Done,
+            used,
+            record,
         },
-    )
+        Walk::Stopped(fault) => refused(fault.answer()),
+    }
 }
 
 impl PfdContents {
@@ -116,7 +84,7 @@ impl PfdContents {
     {
         let n = payload.len();
         if 65535 < n {
-            return refused(Answer::TooLong { length: n });
+            return refused(Answer::InputTooLong { length: n });
         }
         if n < 2 {
             return refused(Answer::Short {

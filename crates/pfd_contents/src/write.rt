@@ -10,8 +10,8 @@ ghost use lib.ListN.{length};
 ghost use Rattle.octets.specs.Octets.{put};
 ghost use Rattle.kind.specs.Write.{answered, stored};
 ghost use Rattle.text_fields.specs.Steps.{runBytes, textBytes};
-ghost use Rattle.pfd_contents.specs.PfdContents.{tested, refusal, meaning, wire};
-ghost use Rattle.pfd_contents.specs.Steps.{form, asRefusal};
+ghost use Rattle.pfd_contents.specs.PfdContents.{tested, writeRefusal, meaning, wire};
+ghost use Rattle.pfd_contents.specs.Steps.{wireByRuns, asRefusal};
 
 // The fields in wire order.
 pub(crate) fn bad_field(texts: &[u8], r: PfdContents) -> u8
@@ -63,7 +63,7 @@ fn list_width(texts: &[u8], x: TextList) -> usize
 // How many bytes a record is written as.
 fn form_width(texts: &[u8], r: PfdContents) -> usize
     requires { ⌜ length (now texts) ≤ 65535 ⌝ }
-    ensures { λ n. ⌜ n ≡ length (form (now (texts .entry)) r) ⌝ }
+    ensures { λ n. ⌜ n ≡ length (wireByRuns (now (texts .entry)) r) ⌝ }
 {
     let flow = r.flow_description;
     let url = r.url;
@@ -85,8 +85,8 @@ fn form_width(texts: &[u8], r: PfdContents) -> usize
 
 // Puts the whole written form, for which there is room.
 fn put_form(out: &mut [u8], texts: &[u8], r: PfdContents)
-    requires { ⌜ length (form (now texts) r) ≤ length (now out) ⌝ }
-    ensures { λ _. ⌜ now (out .exit) ≡ put (now (out .entry)) 0 (form (now (texts .entry)) r) ⌝ }
+    requires { ⌜ length (wireByRuns (now texts) r) ≤ length (now out) ⌝ }
+    ensures { λ _. ⌜ now (out .exit) ≡ put (now (out .entry)) 0 (wireByRuns (now (texts .entry)) r) ⌝ }
 {
     let flow = r.flow_description;
     let url = r.url;
@@ -97,8 +97,8 @@ fn put_form(out: &mut [u8], texts: &[u8], r: PfdContents)
     let urls = r.additional_url;
     let names = r.additional_domain_name_and_protocol;
     let head = [r.flags, 0];
-    let at_flow = text_fields::put_run(out, 0, &head);
-    let at_url = flow.put(texts, out, at_flow);
+    octets::put_bytes(out, 0, &head);
+    let at_url = flow.put(texts, out, 2);
     let at_domain = url.put(texts, out, at_url);
     let at_custom = domain.put(texts, out, at_domain);
     let at_protocol = custom.put(texts, out, at_custom);
@@ -116,12 +116,12 @@ fn unwritten(answer: Answer) -> Written
 
 impl PfdContents {
     pub fn marshal(self, texts: &[u8], out: &mut [u8]) -> Written
-        ensures { λ r. ⌜ r ≡ answered (refusal (now (texts .entry)) self) (wire (meaning (now (texts .entry)) self)) (length (now (out .entry))) ⌝ }
-        ensures { λ r. ⌜ now (out .exit) ≡ stored (refusal (now (texts .entry)) self) (now (out .entry)) (wire (meaning (now (texts .entry)) self)) ⌝ }
+        ensures { λ r. ⌜ r ≡ answered (writeRefusal (now (texts .entry)) self) (wire (meaning (now (texts .entry)) self)) (length (now (out .entry))) ⌝ }
+        ensures { λ r. ⌜ now (out .exit) ≡ stored (writeRefusal (now (texts .entry)) self) (now (out .entry)) (wire (meaning (now (texts .entry)) self)) ⌝ }
     {
         let n = texts.len();
         if 65535 < n {
-            return unwritten(Answer::TooLong { length: n });
+            return unwritten(Answer::InputTooLong { length: n });
         }
         let bad = bad_field(texts, self);
         if bad != 0 {
@@ -129,7 +129,7 @@ impl PfdContents {
         }
         let len = form_width(texts, self);
         if 65535 < len {
-            return unwritten(Answer::TooWide);
+            return unwritten(Answer::OutputTooLong);
         }
         if out.len() < len {
             return unwritten(Answer::NoRoom { needed: len });

@@ -7,11 +7,9 @@ use mathlib.Core.List.{List, _++_}
 use mathlib.Core.Option.{none}
 use lib.Dec.{leb}
 use lib.ListN.{length, take, drop, getD, length-append}
-use borrow.Author.Tests.{le-leb, leb-true}
+use borrow.Author.Tests.{leb-true}
 use Rattle.answer.specs.declared.Answer.{Answer}
-use Rattle.answer.specs.declared.Answer.the-variants.{Done}
 use Rattle.octets.specs.Octets.{pick, bit}
-use Rattle.kind.specs.Kind.{Reads}
 use Rattle.kind.specs.Write.{answered, stored}
 use Rattle.text_fields.specs.declared.MaybeText.{MaybeText}
 use Rattle.text_fields.specs.declared.TextList.{TextList}
@@ -25,11 +23,12 @@ use Rattle.text_fields.specs.Fields.{fieldAt, onField, entries, onEntries, noTe
 use Rattle.text_fields.proofs.Runs.{whole-end}
 use Rattle.pfd_contents.specs.declared.PfdContents.{PfdContents}
 use Rattle.pfd_contents.specs.declared.read.PfdContentsRead.{PfdContentsRead}
-use Rattle.pfd_contents.specs.PfdContents.{Value, meaning, wire, pfdOf, emptyPfd, refused, _into_, readFields, read, reader, refusal}
-use Rattle.pfd_contents.proofs.OfKind.{kind, demands, writable}
-use Rattle.image.specs.Image.{low, numberAt, laid}
-use Rattle.image.proofs.Back.{Stands, flag-back, apart, last, byte, number, ImageOf, image-left}
-use Rattle.pfd_contents_image.specs.PfdContentsImage.{textImage, listImage, textsImage, listsImage, given, recordImage, imageOf, textAt, listAt, recordAt, form, writes, stores}
+use Rattle.pfd_contents.specs.PfdContents.{Value, meaning, wire, pfdOf, emptyPfd, refused, _into_, readFields, read, reader, writeRefusal}
+use Rattle.pfd_contents.proofs.OfKind.{kind, writable}
+use Rattle.image.specs.Image.{littleEndianBytes, numberAt, readImage}
+use Rattle.image.proofs.Back.{Stands, flag-back, apart, last, byte, number, ImageOf, image-left, Again}
+use Rattle.image.proofs.Back as image
+use Rattle.pfd_contents_image.specs.PfdContentsImage.{size, textImage, listImage, textsImage, listsImage, given, recordImage, imageOf, textAt, listAt, recordAt, writtenForm, writes, stores}
 use Rattle.pfd_contents_image.proofs.Laws.{length-text, length-list}
 
 -- ---- a text and a list are read back, where their numbers have their bytes
@@ -43,15 +42,15 @@ module _ {m ys : List ℕ} {at : ℕ} where
   text-back : (t : MaybeText) → SmallText t → Stands m at (textImage t ++ ys) → (textAt m at (t .given) ≡ t) × Stands m (at + 8 + 8) ys
   unfolding textImage textAt
   text-back t (p, l) h =
-      let (e₀, h₁) = number (t .place) p (apart (low 8 (t .place)) (low 8 (t .len)) ys h) in
+      let (e₀, h₁) = number (t .place) p (apart (littleEndianBytes 8 (t .place)) (littleEndianBytes 8 (t .len)) ys h) in
       let (e₁, h₂) = number (t .len) l h₁ in
       (rw (e₀, e₁), h₂)
 
   list-back : (l : TextList) → SmallList l → Stands m at (listImage l ++ ys) → (listAt m at ≡ l) × Stands m (at + 8 + 8 + 8) ys
   unfolding listImage listAt
   list-back l (p, n, c) h =
-      let (e₀, h₁) = number (l .place) p (apart (low 8 (l .place)) (low 8 (l .len) ++ low 8 (l .count)) ys h) in
-      let (e₁, h₂) = number (l .len) n (apart (low 8 (l .len)) (low 8 (l .count)) ys h₁) in
+      let (e₀, h₁) = number (l .place) p (apart (littleEndianBytes 8 (l .place)) (littleEndianBytes 8 (l .len) ++ littleEndianBytes 8 (l .count)) ys h) in
+      let (e₁, h₂) = number (l .len) n (apart (littleEndianBytes 8 (l .len)) (littleEndianBytes 8 (l .count)) ys h₁) in
       let (e₂, h₃) = number (l .count) c h₂ in
       let sum : at + 16 ≡ at + 8 + 8 = omega arith in
       let e₃ : numberAt m (at + 16) ≡ l .count = ap (numberAt m) sum ∙ e₂ in
@@ -61,7 +60,7 @@ module _ {m ys : List ℕ} {at : ℕ} where
 abbrev Kept : PfdContents → Type 0
 Kept r = ImageOf 154 recordAt (recordImage r) r
 
-image : (r : PfdContents)
+laid : (r : PfdContents)
     → SmallText (r .«flow_description»)
     → SmallText (r .url)
     → SmallText (r .«domain_name»)
@@ -72,7 +71,7 @@ image : (r : PfdContents)
     → SmallList (r .«additional_domain_name_and_protocol»)
     → Kept r
 unfolding recordImage recordAt textsImage listsImage
-image r s₁ s₂ s₃ s₄ s₅ s₆ s₇ s₈ =
+laid r s₁ s₂ s₃ s₄ s₅ s₆ s₇ s₈ =
     record {
       size-is = simp (length-append, length-text, length-list) (omega arith);
       found = λ m h.
@@ -119,11 +118,11 @@ module _ (s : List ℕ) (short : length s ≤ 65535) where
   Within Small (broke fault) = Unit
 
   -- by the field at a place: none, one that ends within the payload, or a fault
-  by-field : {A : Type 0} (P : A → Type 0) (at : ℕ) (absent : A) (whole : ℕ → ℕ → A) (faulty : Fault → A) → P absent
-      → ((p n : ℕ) → at + 2 ≤ p → p + n ≤ length s → P (whole p n)) → ((x : Fault) → P (faulty x)) → P (onField (fieldAt s at) absent whole faulty)
-  by-field P at absent whole faulty a w f = go (fieldAt s at) refl
+  by-field : {A : Type 0} (P : A → Type 0) (at : ℕ) (absent : A) (longEnough : ℕ → ℕ → A) (faulty : Fault → A) → P absent
+      → ((p n : ℕ) → at + 2 ≤ p → p + n ≤ length s → P (longEnough p n)) → ((x : Fault) → P (faulty x)) → P (onField (fieldAt s at) absent longEnough faulty)
+  by-field P at absent longEnough faulty a w f = go (fieldAt s at) refl
     where
-      go : (g : Field) → fieldAt s at ≡ g → P (onField g absent whole faulty)
+      go : (g : Field) → fieldAt s at ≡ g → P (onField g absent longEnough faulty)
       go Absent q = a
       go (Whole p n) q = let e = whole-end s at (sym q) refl in w p n (omega arith) (omega arith)
       go (Faulty x) q = f x
@@ -167,7 +166,7 @@ unfolding refused
 not-read a =
     let t : SmallText noText = (omega arith, omega arith) in
     let l : SmallList noList = (omega arith, omega arith, omega arith) in
-    image emptyPfd t t t t t l l l
+    laid emptyPfd t t t t t l l l
 
 fine-into : {A : Type 0} (s : List ℕ) (short : length s ≤ 65535) (Small : A → Type 0) (x : Step A) (rest : A → ℕ → PfdContentsRead) → Within s short Small x
     → ((a : A) (n : ℕ) → Small a → n ≤ length s → Fine (rest a n)) → Fine (x into rest)
@@ -186,7 +185,7 @@ of-fields s f short h =
     fine-into s short SmallList (list s (bit 5 f) (bit 6 f || bit 7 f) n₅) _ (list-within s short (bit 5 f) (bit 6 f || bit 7 f) n₅ h₅) (λ x₆ n₆ k₆ h₆.
     fine-into s short SmallList (list s (bit 6 f) (bit 7 f) n₆) _ (list-within s short (bit 6 f) (bit 7 f) n₆ h₆) (λ x₇ n₇ k₇ h₇.
     fine-into s short SmallList (list s (bit 7 f) false n₇) _ (list-within s short (bit 7 f) false n₇ h₇) (λ x₈ n₈ k₈ h₈.
-    image (pfdOf f x₁ x₂ x₃ x₄ x₅ x₆ x₇ x₈) k₁ k₂ k₃ k₄ k₅ k₆ k₇ k₈))))))))
+    laid (pfdOf f x₁ x₂ x₃ x₄ x₅ x₆ x₇ x₈) k₁ k₂ k₃ k₄ k₅ k₆ k₇ k₈))))))))
 
 fine-either : (t : Bool) (x y : PfdContentsRead) → (t ≡ true → Fine x) → Fine y → Fine (pick t x y)
 fine-either true x y f g = f refl
@@ -201,27 +200,16 @@ of-read s =
 
 -- the memory that a read of s left
 abbrev pub left : List ℕ → List ℕ → List ℕ
-left s d = laid 194 d (imageOf (read s))
+left s d = readImage size d (imageOf (read s))
 
 -- the record that stands there is the one that was read
-pub kept : (s d : List ℕ) → 194 ≤ length d → recordAt (left s d) ≡ read s .«record»
-kept s d room = image-left 154 (of-read s) _ _ d room
+pub record-in-image : (s d : List ℕ) → size ≤ length d → recordAt (left s d) ≡ read s .«record»
+record-in-image s d room = image-left 154 (of-read s) _ _ d room
 
--- and so, where the read was done, the form that writing it with the same texts gives is the cleared payload
-module _ {s : List ℕ} {v : Value} {n : ℕ} (r : Reads reader s v n) (d : List ℕ) (room : 194 ≤ length d) where
-  same-form : form (left s d) s ≡ wire v
-  same-form = ap (λ (x : PfdContents). wire (meaning s x)) (kept s d room) ∙ ap wire (r .value)
-
-  same-test : refusal s (recordAt (left s d)) ≡ none
-  same-test = ap (refusal s) (kept s d room) ∙ writable r
-
-  pub written-again : form (left s d) s ≡ kind .clear (take n s)
-  written-again = same-form ∙ kind .written r
-
-  -- with room for it the write is done, it stores just that, and no byte behind it changes
-  pub stored-again : (out : List ℕ) → length (wire v) ≤ length out
-      → (writes (left s d) s out ≡ record { answer = Done; len = length (wire v) })
-      × (take (length (wire v)) (stores (left s d) s out) ≡ kind .clear (take n s))
-      × (drop (length (wire v)) (stores (left s d) s out) ≡ drop (length (wire v)) out)
-  unfolding writes stores answered stored
-  stored-again out h = let (just, behind) = demands .stored r out h in rw (same-test, same-form) (rw (le-leb _ _ h), just, behind)
+-- and so, where the read was done, writing it again with the same texts gives the cleared payload
+pub again : Again kind size left writtenForm writes stores
+unfolding writes stores answered stored
+again =
+    image.again kind size left _ _ _ (λ s v n r d room. ap (λ (x : PfdContents). wire (meaning s x)) (record-in-image s d room) ∙ ap wire (r .value)) (λ s v n r d room out.
+    let test : writeRefusal s (recordAt (left s d)) ≡ none = ap (writeRefusal s) (record-in-image s d room) ∙ writable r in
+    rw test (refl, refl))

@@ -5,16 +5,16 @@ use lib.ListN.{length, length-append}
 use Rattle.text_fields.specs.declared.MaybeText.{MaybeText}
 use Rattle.text_fields.specs.declared.TextList.{TextList}
 use Rattle.pfd_contents.specs.declared.PfdContents.{PfdContents}
-use Rattle.image.proofs.Laws.{length-low}
+use Rattle.image.proofs.Laws.{length-littleEndianBytes}
 use Rattle.pfd_contents_image.specs.PfdContentsImage.{textImage, listImage, textsImage, listsImage}
 
 pub length-text : (t : MaybeText) → length (textImage t) ≡ 16
 unfolding textImage
-length-text t = simp (length-append, length-low) (omega arith)
+length-text t = simp (length-append, length-littleEndianBytes) (omega arith)
 
 pub length-list : (l : TextList) → length (listImage l) ≡ 24
 unfolding listImage
-length-list l = simp (length-append, length-low) (omega arith)
+length-list l = simp (length-append, length-littleEndianBytes) (omega arith)
 
 pub length-texts : (r : PfdContents) → length (textsImage r) ≡ 80
 unfolding textsImage

@@ -1,14 +1,4 @@
--- PFD Contents in a record image of 194 bytes: the head, then at
---    40  flags, a byte, whole
---    41  fields given: bit 0 flow description, 1 URL, 2 domain name, 3 custom PFD content, 4 domain name protocol
---    42  flow description: place in the lent texts and length, two numbers
---    58  URL, the same
---    74  domain name, the same
---    90  custom PFD content, the same
---   106  domain name protocol, the same
---   122  additional flow descriptions: place in the lent texts, byte length and count of a run of fields, three numbers
---   146  additional URLs, the same
---   170  additional domain names and protocols, the same
+-- PFD Contents in a record image: the head, then the fields, each at its place.
 use Prim.Native.Nat.{ℕ, _+_}
 use mathlib.Core.Bool.{Bool}
 use mathlib.Core.List.{List, [], _∷_, _++_}
@@ -20,15 +10,53 @@ use Rattle.text_fields.specs.declared.MaybeText.{MaybeText}
 use Rattle.text_fields.specs.declared.TextList.{TextList}
 use Rattle.pfd_contents.specs.declared.PfdContents.{PfdContents}
 use Rattle.pfd_contents.specs.declared.read.PfdContentsRead.{PfdContentsRead}
-use Rattle.pfd_contents.specs.PfdContents.{meaning, wire, refusal}
-use Rattle.image.specs.Image.{low, numberAt, head}
+use Rattle.pfd_contents.specs.PfdContents.{meaning, wire, writeRefusal}
+use Rattle.image.specs.Image.{littleEndianBytes, numberAt, head, headSize}
+
+-- flags, a byte, whole
+abbrev pub flagsAt : ℕ
+flagsAt = headSize
+
+-- texts given, a byte: bit 0 flow description, 1 URL, 2 domain name, 3 custom PFD content, 4 domain name protocol
+abbrev pub givenAt : ℕ
+givenAt = flagsAt + 1
+
+-- the five texts: place in the lent texts and length, two numbers
+abbrev pub flowAt : ℕ
+flowAt = givenAt + 1
+
+abbrev pub urlAt : ℕ
+urlAt = flowAt + 16
+
+abbrev pub domainAt : ℕ
+domainAt = urlAt + 16
+
+abbrev pub customAt : ℕ
+customAt = domainAt + 16
+
+abbrev pub protocolAt : ℕ
+protocolAt = customAt + 16
+
+-- the additional flow descriptions, URLs, and domain names and protocols: place in the lent texts, byte length and count of a run of fields, three numbers
+abbrev pub flowsAt : ℕ
+flowsAt = protocolAt + 16
+
+abbrev pub urlsAt : ℕ
+urlsAt = flowsAt + 24
+
+abbrev pub namesAt : ℕ
+namesAt = urlsAt + 24
+
+-- how long an image is
+abbrev pub size : ℕ
+size = namesAt + 24
 
 -- the bytes of a text, and of a list
 unfoldable pub textImage : MaybeText → List ℕ
-textImage t = low 8 (t .place) ++ low 8 (t .len)
+textImage t = littleEndianBytes 8 (t .place) ++ littleEndianBytes 8 (t .len)
 
 unfoldable pub listImage : TextList → List ℕ
-listImage l = low 8 (l .place) ++ (low 8 (l .len) ++ low 8 (l .count))
+listImage l = littleEndianBytes 8 (l .place) ++ (littleEndianBytes 8 (l .len) ++ littleEndianBytes 8 (l .count))
 
 -- the bytes of the five texts, and of the three lists
 unfoldable pub textsImage : PfdContents → List ℕ
@@ -73,25 +101,25 @@ listAt m at = record { place = numberAt m at; len = numberAt m (at + 8); count =
 -- the record that stands in an image
 unfoldable pub recordAt : List ℕ → PfdContents
 recordAt m =
-    let isGiven : ℕ → Bool = λ k. bit k (getD m 41 0) in
+    let isGiven : ℕ → Bool = λ k. bit k (getD m givenAt 0) in
     record {
-      flags = getD m 40 0;
-      «flow_description» = textAt m 42 (isGiven 0);
-      url = textAt m 58 (isGiven 1);
-      «domain_name» = textAt m 74 (isGiven 2);
-      «custom_pfd_content» = textAt m 90 (isGiven 3);
-      «domain_name_protocol» = textAt m 106 (isGiven 4);
-      «additional_flow_description» = listAt m 122;
-      «additional_url» = listAt m 146;
-      «additional_domain_name_and_protocol» = listAt m 170;
+      flags = getD m flagsAt 0;
+      «flow_description» = textAt m flowAt (isGiven 0);
+      url = textAt m urlAt (isGiven 1);
+      «domain_name» = textAt m domainAt (isGiven 2);
+      «custom_pfd_content» = textAt m customAt (isGiven 3);
+      «domain_name_protocol» = textAt m protocolAt (isGiven 4);
+      «additional_flow_description» = listAt m flowsAt;
+      «additional_url» = listAt m urlsAt;
+      «additional_domain_name_and_protocol» = listAt m namesAt;
     }
 
 -- what writing that record with the texts that are lent answers, and the output that it leaves
-abbrev pub form : List ℕ → List ℕ → List ℕ
-form m texts = wire (meaning texts (recordAt m))
+abbrev pub writtenForm : List ℕ → List ℕ → List ℕ
+writtenForm m texts = wire (meaning texts (recordAt m))
 
 unfoldable pub writes : List ℕ → List ℕ → List ℕ → Written
-writes m texts out = answered (refusal texts (recordAt m)) (form m texts) (length out)
+writes m texts out = answered (writeRefusal texts (recordAt m)) (writtenForm m texts) (length out)
 
 unfoldable pub stores : List ℕ → List ℕ → List ℕ → List ℕ
-stores m texts out = stored (refusal texts (recordAt m)) out (form m texts)
+stores m texts out = stored (writeRefusal texts (recordAt m)) out (writtenForm m texts)

@@ -1,7 +1,6 @@
 // PFD Contents in a record image.
 use answer::Answer;
 use pfd_contents::PfdContents;
-use text_fields::Fault;
 use text_fields::MaybeText;
 use text_fields::TextList;
 use text_fields::Walk;
@@ -9,16 +8,35 @@ ghost use mathlib.Core.Path.{_≡_};
 ghost use Prim.Native.Nat.{_≤_, _+_};
 ghost use lib.ListN.{length};
 ghost use mathlib.Core.List.{_++_};
+ghost use Rattle.answer.specs.declared.Answer.the-variants.{Done};
 ghost use Rattle.answer.specs.Paper.{numberOf};
 ghost use Rattle.octets.specs.Octets.{put};
-ghost use Rattle.image.specs.Image.{numberAt, head, told, laid, whole, numbered, changed, reported};
-ghost use mathlib.Core.Bool.{_||_};
-ghost use Rattle.pfd_contents.specs.PfdContents.{answerOf, refused, readFields, read};
-ghost use Rattle.pfd_contents.specs.Steps.{finished};
-ghost use Rattle.pfd_contents_image.specs.PfdContentsImage.{textImage, listImage, textsImage, listsImage, recordImage, imageOf, textAt, listAt, recordAt, writes, stores};
+ghost use Rattle.image.specs.Image.{numberAt, head, readNumber, readImage, longEnough, writeNumber, writeOutput, writeReport};
+ghost use Rattle.pfd_contents.specs.PfdContents.{readFields, read};
+ghost use Rattle.pfd_contents_image.specs.PfdContentsImage.{flowAt, flowsAt, size, textImage, listImage, textsImage, listsImage, recordImage, imageOf, textAt, listAt, recordAt, writes, stores};
 
-// How long an image is.
-pub const SIZE: usize = 194;
+// Where each field of an image stands, and how long an image is: a text is a place and a length, a list those and a count.
+const FLAGS: usize = image::HEAD;
+
+const GIVEN: usize = FLAGS + 1;
+
+const FLOW: usize = GIVEN + 1;
+
+const URL: usize = FLOW + 16;
+
+const DOMAIN: usize = URL + 16;
+
+const CUSTOM: usize = DOMAIN + 16;
+
+const PROTOCOL: usize = CUSTOM + 16;
+
+const FLOWS: usize = PROTOCOL + 16;
+
+const URLS: usize = FLOWS + 24;
+
+const NAMES: usize = URLS + 24;
+
+pub const SIZE: usize = NAMES + 24;
 
 // Puts a text's place and length.
 fn put_text(out: &mut [u8], at: usize, text: MaybeText)
@@ -41,30 +59,30 @@ fn put_list(out: &mut [u8], at: usize, list: TextList)
 
 // Puts the five texts.
 fn put_texts(out: &mut [u8], record: PfdContents)
-    requires { ⌜ 194 ≤ length (now out) ⌝ }
-    ensures { λ _. ⌜ now (out .exit) ≡ put (now (out .entry)) 42 (textsImage «record») ⌝ }
+    requires { ⌜ size ≤ length (now out) ⌝ }
+    ensures { λ _. ⌜ now (out .exit) ≡ put (now (out .entry)) flowAt (textsImage «record») ⌝ }
 {
-    put_text(out, 106, record.domain_name_protocol);
-    put_text(out, 90, record.custom_pfd_content);
-    put_text(out, 74, record.domain_name);
-    put_text(out, 58, record.url);
-    put_text(out, 42, record.flow_description);
+    put_text(out, PROTOCOL, record.domain_name_protocol);
+    put_text(out, CUSTOM, record.custom_pfd_content);
+    put_text(out, DOMAIN, record.domain_name);
+    put_text(out, URL, record.url);
+    put_text(out, FLOW, record.flow_description);
 }
 
 // Puts the three lists.
 fn put_lists(out: &mut [u8], record: PfdContents)
-    requires { ⌜ 194 ≤ length (now out) ⌝ }
-    ensures { λ _. ⌜ now (out .exit) ≡ put (now (out .entry)) 122 (listsImage «record») ⌝ }
+    requires { ⌜ size ≤ length (now out) ⌝ }
+    ensures { λ _. ⌜ now (out .exit) ≡ put (now (out .entry)) flowsAt (listsImage «record») ⌝ }
 {
-    put_list(out, 170, record.additional_domain_name_and_protocol);
-    put_list(out, 146, record.additional_url);
-    put_list(out, 122, record.additional_flow_description);
+    put_list(out, NAMES, record.additional_domain_name_and_protocol);
+    put_list(out, URLS, record.additional_url);
+    put_list(out, FLOWS, record.additional_flow_description);
 }
 
-// Puts a whole image, from the back to the front.
-fn put_image(out: &mut [u8], answer: Answer, used: usize, record: PfdContents)
-    requires { ⌜ 194 ≤ length (now out) ⌝ }
-    ensures { λ _. ⌜ now (out .exit) ≡ put (now (out .entry)) 0 (head answer used ++ recordImage «record») ⌝ }
+// Puts the image of a read that is done, from the back to the front.
+fn put_image(out: &mut [u8], used: usize, record: PfdContents)
+    requires { ⌜ size ≤ length (now out) ⌝ }
+    ensures { λ _. ⌜ now (out .exit) ≡ put (now (out .entry)) 0 (head Done used ++ recordImage «record») ⌝ }
 {
     let flow_description = record.flow_description;
     let url = record.url;
@@ -83,62 +101,15 @@ fn put_image(out: &mut [u8], answer: Answer, used: usize, record: PfdContents)
     );
     put_lists(out, record);
     put_texts(out, record);
-    octets::put_byte(out, 41, given);
-    octets::put_byte(out, 40, record.flags);
-    image::put_head(out, answer, used);
+    octets::put_byte(out, GIVEN, given);
+    octets::put_byte(out, FLAGS, record.flags);
+    image::put_head(out, Answer::Done, used);
 }
 
-// Puts a refused read, whose record is empty, and says its number.
-fn put_refused(out: &mut [u8], answer: Answer) -> u64
-    requires { ⌜ 194 ≤ length (now out) ⌝ }
-    ensures { λ r. ⌜ r ≡ numberOf answer ⌝ }
-    ensures { λ r. ⌜ now (out .exit) ≡ put (now (out .entry)) 0 (imageOf (refused answer)) ⌝ }
-{
-    let empty = [0u8; 154];
-    octets::put_bytes(out, 40, &empty);
-    image::put_head(out, answer, 0);
-    answer.number() as u64
-}
-
-// The answer to a fault.
-fn answer_of(fault: Fault) -> Answer
-    ensures { λ r. ⌜ r ≡ answerOf fault ⌝ }
-{
-    match fault {
-        Fault::Past { end, len } => Answer::Short {
-            field: 10,
-            expected: end,
-            actual: len,
-        },
-        Fault::Garbled { place } => Answer::NotUtf8 { place },
-    }
-}
-
-// Puts what a walk over the fields came to, and says its number.
-fn put_walked(out: &mut [u8], walk: Walk, record: PfdContents) -> u64
-    requires { ⌜ 194 ≤ length (now out) ⌝ }
-    ensures { λ r. ⌜ r ≡ numberOf (finished walk «record» .answer) ⌝ }
-    ensures { λ r. ⌜ now (out .exit) ≡ put (now (out .entry)) 0 (imageOf (finished walk «record»)) ⌝ }
-{
-    match walk {
-        Walk::At(used) => {
-            put_image(out, Answer::Done, used, record);
-            0
-        }
-        Walk::Stopped(fault) => put_refused(out, answer_of(fault)),
-    }
-}
-
-fn either(a: bool, b: bool) -> bool
-    ensures { λ r. ⌜ r ≡ (a || b) ⌝ }
-{
-    a || b
-}
-
-// The eight fields in wire order. The steps are those of `PfdContents::unmarshal`; they stand here once more so that the compiler takes
-// the record from them to the image in registers.
+// The eight fields in wire order. The steps are those of `PfdContents::unmarshal`; they stand here once more so that the compiler
+// takes the record from them to the image in registers: a function that both call isn't inlined, and costs 50 instructions more.
 fn read_fields(payload: &[u8], flags: u8, image: &mut [u8]) -> u64
-    requires { ⌜ 194 ≤ length (now image) ⌝ }
+    requires { ⌜ size ≤ length (now image) ⌝ }
     ensures { λ r. ⌜ r ≡ numberOf (readFields (now (payload .entry)) flags .answer) ⌝ }
     ensures { λ r. ⌜ now (image .exit) ≡ put (now (image .entry)) 0 (imageOf (readFields (now (payload .entry)) flags)) ⌝ }
 {
@@ -154,7 +125,7 @@ fn read_fields(payload: &[u8], flags: u8, image: &mut [u8]) -> u64
     walk = custom.walk;
     let protocol = MaybeText::read(payload, walk, flags, 4);
     walk = protocol.walk;
-    let flows_later = either(urls_too, names_too);
+    let flows_later = octets::either(urls_too, names_too);
     let flows = TextList::read(payload, walk, flags, 5, flows_later);
     walk = flows.walk;
     let urls = TextList::read(payload, walk, flags, 6, names_too);
@@ -169,45 +140,24 @@ fn read_fields(payload: &[u8], flags: u8, image: &mut [u8]) -> u64
     let additional_flow_description = flows.list;
     let additional_url = urls.list;
     let additional_domain_name_and_protocol = names.list;
-    put_walked(
-        image,
-        walk,
-        PfdContents {
-            flags,
-            flow_description,
-            url,
-            domain_name,
-            custom_pfd_content,
-            domain_name_protocol,
-            additional_flow_description,
-            additional_url,
-            additional_domain_name_and_protocol,
-        },
-    )
-}
-
-// Puts what reading a payload answers, and says its number.
-fn put_read(payload: &[u8], image: &mut [u8]) -> u64
-    requires { ⌜ 194 ≤ length (now image) ⌝ }
-    ensures { λ r. ⌜ r ≡ numberOf (read (now (payload .entry)) .answer) ⌝ }
-    ensures { λ r. ⌜ now (image .exit) ≡ put (now (image .entry)) 0 (imageOf (read (now (payload .entry)))) ⌝ }
-{
-    let n = payload.len();
-    if 65535 < n {
-        return put_refused(image, Answer::TooLong { length: n });
+    let record = PfdContents {
+        flags,
+        flow_description,
+        url,
+        domain_name,
+        custom_pfd_content,
+        domain_name_protocol,
+        additional_flow_description,
+        additional_url,
+        additional_domain_name_and_protocol,
+    };
+    match walk {
+        Walk::At(used) => {
+            put_image(image, used, record);
+            0
+        }
+        Walk::Stopped(fault) => image::put_refused(image, SIZE, fault.answer()),
     }
-    if n < 2 {
-        return put_refused(
-            image,
-            Answer::Short {
-                field: 0,
-                expected: 2,
-                actual: n,
-            },
-        );
-    }
-    let flags = payload[0];
-    read_fields(payload, flags, image)
 }
 
 // The number at a place whose eight bytes are there: one load.
@@ -249,38 +199,46 @@ fn list_at(image: &[u8], at: usize) -> TextList
 
 // The record that stands in an image.
 fn record_at(image: &[u8]) -> PfdContents
-    requires { ⌜ 194 ≤ length (now image) ⌝ }
+    requires { ⌜ size ≤ length (now image) ⌝ }
     ensures { λ r. ⌜ r ≡ recordAt (now (image .entry)) ⌝ }
 {
-    let flags = image::byte_at(image, 40);
-    let given = image::byte_at(image, 41);
+    let flags = image::byte_at(image, FLAGS);
+    let given = image::byte_at(image, GIVEN);
     PfdContents {
         flags,
-        flow_description: text_at(image, 42, octets::bit(given, 0)),
-        url: text_at(image, 58, octets::bit(given, 1)),
-        domain_name: text_at(image, 74, octets::bit(given, 2)),
-        custom_pfd_content: text_at(image, 90, octets::bit(given, 3)),
-        domain_name_protocol: text_at(image, 106, octets::bit(given, 4)),
-        additional_flow_description: list_at(image, 122),
-        additional_url: list_at(image, 146),
-        additional_domain_name_and_protocol: list_at(image, 170),
+        flow_description: text_at(image, FLOW, octets::bit(given, 0)),
+        url: text_at(image, URL, octets::bit(given, 1)),
+        domain_name: text_at(image, DOMAIN, octets::bit(given, 2)),
+        custom_pfd_content: text_at(image, CUSTOM, octets::bit(given, 3)),
+        domain_name_protocol: text_at(image, PROTOCOL, octets::bit(given, 4)),
+        additional_flow_description: list_at(image, FLOWS),
+        additional_url: list_at(image, URLS),
+        additional_domain_name_and_protocol: list_at(image, NAMES),
     }
 }
 
 pub fn read(payload: &[u8], image: &mut [u8]) -> u64
-    ensures { λ r. ⌜ r ≡ told 194 (now (image .entry)) (read (now (payload .entry)) .answer) ⌝ }
-    ensures { λ r. ⌜ now (image .exit) ≡ laid 194 (now (image .entry)) (imageOf (read (now (payload .entry)))) ⌝ }
+    ensures { λ r. ⌜ r ≡ readNumber size (now (image .entry)) (read (now (payload .entry)) .answer) ⌝ }
+    ensures { λ r. ⌜ now (image .exit) ≡ readImage size (now (image .entry)) (imageOf (read (now (payload .entry)))) ⌝ }
 {
     if image.len() < SIZE {
         return 8;
     }
-    put_read(payload, image)
+    let n = payload.len();
+    if 65535 < n {
+        return image::put_refused(image, SIZE, Answer::InputTooLong { length: n });
+    }
+    if n < 2 {
+        return image::put_short(image, SIZE, 0, 2, n);
+    }
+    let flags = payload[0];
+    read_fields(payload, flags, image)
 }
 
 pub fn write(image: &[u8], texts: &[u8], out: &mut [u8], report: &mut [u8]) -> u64
-    ensures { λ r. ⌜ r ≡ numbered (whole 194 (now (image .entry)) (now (report .entry))) (writes (now (image .entry)) (now (texts .entry)) (now (out .entry))) ⌝ }
-    ensures { λ r. ⌜ now (out .exit) ≡ changed (whole 194 (now (image .entry)) (now (report .entry))) (stores (now (image .entry)) (now (texts .entry)) (now (out .entry))) (now (out .entry)) ⌝ }
-    ensures { λ r. ⌜ now (report .exit) ≡ reported (whole 194 (now (image .entry)) (now (report .entry))) (now (report .entry)) (writes (now (image .entry)) (now (texts .entry)) (now (out .entry))) ⌝ }
+    ensures { λ r. ⌜ r ≡ writeNumber (longEnough size (now (image .entry)) (now (report .entry))) (writes (now (image .entry)) (now (texts .entry)) (now (out .entry))) ⌝ }
+    ensures { λ r. ⌜ now (out .exit) ≡ writeOutput (longEnough size (now (image .entry)) (now (report .entry))) (stores (now (image .entry)) (now (texts .entry)) (now (out .entry))) (now (out .entry)) ⌝ }
+    ensures { λ r. ⌜ now (report .exit) ≡ writeReport (longEnough size (now (image .entry)) (now (report .entry))) (now (report .entry)) (writes (now (image .entry)) (now (texts .entry)) (now (out .entry))) ⌝ }
 {
     if !image::long_enough(SIZE, image.len(), report.len()) {
         return 8;

@@ -1,88 +1,94 @@
-// The answer of one line, put at a place of the output: a payload line, or a record line where `=` or `.` is in it.
-use crate::f_teid_line;
-use crate::fseid_line;
-use crate::node_id_line;
-use crate::ohc_line;
-use crate::parts::has;
-use crate::parts::part;
-use crate::pfd_line;
-use crate::print;
-use crate::ue_ip_line;
+// The row of a payload line: a letter, a space, and the payload in hex, a dash for the empty one.
+use f_teid::Fteid;
+use fseid::Fseid;
+use outer_header_creation::OuterHeaderCreation;
+use ue_ip_address::UeIpAddress;
 
 // How many bytes a good line has at most: a letter, a space and 65,600 digit pairs.
 pub(crate) const LONGEST: usize = 131202;
 
-fn first(line: &[u8]) -> u8 {
-    if line.len() == 0 {
-        return 0;
-    }
-    line[0]
-}
-
-pub(crate) fn answer(line: &[u8], payload: &mut [u8], out: &mut [u8], at: usize) -> usize {
-    if LONGEST < line.len() {
-        return print::other(out, at);
-    }
-    if has(line, b'=') {
-        return record_line(line, payload, out, at);
-    }
-    if has(line, b'.') {
-        return record_line(line, payload, out, at);
-    }
-    payload_line(line, payload, out, at)
-}
-
-// The texts of a record are laid into the buffer that payload lines are read into.
-fn record_line(line: &[u8], texts: &mut [u8], out: &mut [u8], at: usize) -> usize {
-    match first(line) {
-        b'U' => ue_ip_line::record(line, out, at),
-        b'F' => f_teid_line::record(line, out, at),
-        b'S' => fseid_line::record(line, out, at),
-        b'N' => node_id_line::record(line, texts, out, at),
-        b'O' => ohc_line::record(line, out, at),
-        b'P' => pfd_line::record(line, texts, out, at),
-        _ => print::other(out, at),
-    }
-}
-
-fn payload_line(line: &[u8], payload: &mut [u8], out: &mut [u8], at: usize) -> usize {
+pub(crate) fn put(out: &mut [u8], at: usize, line: &[u8], payload: &mut [u8]) -> usize {
     if line.len() < 3 {
-        return print::other(out, at);
+        return rows::put_other(out, at);
+    }
+    if LONGEST < line.len() {
+        return rows::put_other(out, at);
     }
     if line[1] != b' ' {
-        return print::other(out, at);
+        return rows::put_other(out, at);
     }
     let text = &line[2..];
-    if check::same(text, b"-") {
-        return by_letter(line[0], b"", out, at);
-    }
-    if text.len() % 2 != 0 {
-        return print::other(out, at);
-    }
     let len = hex::parse(text, payload);
-    if len != text.len() / 2 {
-        return print::other(out, at);
+    if is_payload(text, len) {
+        return put_row(out, at, line[0], texts::part(payload, 0, len));
     }
-    by_letter(line[0], part(payload, 0, len), out, at)
+    rows::put_other(out, at)
 }
 
-fn by_letter(letter: u8, bs: &[u8], out: &mut [u8], at: usize) -> usize {
-    match letter {
-        b'U' => ue_ip_line::payload(bs, out, at),
-        b'F' => f_teid_line::payload(bs, out, at),
-        b'S' => fseid_line::payload(bs, out, at),
-        b'N' => node_id_line::payload(bs, false, out, at),
-        b'O' => ohc_line::payload(bs, out, at),
-        b'P' => pfd_line::payload(bs, false, out, at),
-        b'T' => text_payload(bs, out, at),
-        _ => print::other(out, at),
+// Whether a text that begins with so many digit pairs has nothing else, or is the dash.
+fn is_payload(text: &[u8], pairs: usize) -> bool {
+    if check::same(text, b"-") {
+        return true;
     }
+    if text.len() % 2 != 0 {
+        return false;
+    }
+    text.len() / 2 == pairs
+}
+
+// The row of a payload, by its letter.
+fn put_row(out: &mut [u8], at: usize, letter: u8, payload: &[u8]) -> usize {
+    match letter {
+        b'U' => put_ue_ip_address(out, at, payload),
+        b'F' => put_f_teid(out, at, payload),
+        b'S' => put_fseid(out, at, payload),
+        b'N' => details::put_node_id_payload(out, at, payload, false),
+        b'O' => put_outer_header_creation(out, at, payload),
+        b'P' => details::put_pfd_contents_payload(out, at, payload, false),
+        b'T' => put_text(out, at, payload),
+        _ => rows::put_other(out, at),
+    }
+}
+
+fn put_ue_ip_address(out: &mut [u8], at: usize, payload: &[u8]) -> usize {
+    let read = UeIpAddress::unmarshal(payload);
+    let answer = read.answer;
+    if answer.number() != 0 {
+        return details::put_unread(out, at, answer);
+    }
+    details::put_ue_ip_address(out, at, read.record, true, read.used)
+}
+
+fn put_f_teid(out: &mut [u8], at: usize, payload: &[u8]) -> usize {
+    let read = Fteid::unmarshal(payload);
+    let answer = read.answer;
+    if answer.number() != 0 {
+        return details::put_unread(out, at, answer);
+    }
+    details::put_f_teid(out, at, read.record, true, read.used)
+}
+
+fn put_fseid(out: &mut [u8], at: usize, payload: &[u8]) -> usize {
+    let read = Fseid::unmarshal(payload);
+    let answer = read.answer;
+    if answer.number() != 0 {
+        return details::put_unread(out, at, answer);
+    }
+    details::put_fseid(out, at, read.record, true, read.used)
+}
+
+fn put_outer_header_creation(out: &mut [u8], at: usize, payload: &[u8]) -> usize {
+    let read = OuterHeaderCreation::unmarshal(payload);
+    let answer = read.answer;
+    if answer.number() != 0 {
+        return details::put_unread(out, at, answer);
+    }
+    details::put_outer_header_creation(out, at, read.record, true, read.used)
 }
 
 // What is good of a text, and how many bytes behind that are bad.
-fn text_payload(bs: &[u8], out: &mut [u8], at: usize) -> usize {
-    let checked = text::examine(bs);
-    let end = print::decimal(out, at, b"", checked.good);
-    let end = print::decimal(out, end, b" ", checked.bad);
-    print::end_of_line(out, end)
+fn put_text(out: &mut [u8], at: usize, text: &[u8]) -> usize {
+    let checked = text::examine(text);
+    let values = [rows::count(checked.good), rows::count(checked.bad)];
+    rows::put(out, at, b"# #\n", &values, b"")
 }

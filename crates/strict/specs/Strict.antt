@@ -23,9 +23,9 @@ abbrev pub present : {A : Type 0} → Option A → Bool
 present none = false
 present (some x) = true
 
-abbrev pub filled : {A : Type 0} → List A → Bool
-filled [] = false
-filled (x ∷ xs) = true
+abbrev pub nonEmpty : {A : Type 0} → List A → Bool
+nonEmpty [] = false
+nonEmpty (x ∷ xs) = true
 
 -- PFD Contents: each flagged field present and each flagged list non-empty
 unfoldable pub complete : pfd.Value → Bool
@@ -36,9 +36,9 @@ complete v =
     && unless 2 (present (v .«domain_name»))
     && unless 3 (present (v .«custom_pfd_content»))
     && unless 4 (present (v .«domain_name_protocol»))
-    && unless 5 (filled (v .«additional_flow_description»))
-    && unless 6 (filled (v .«additional_url»))
-    && unless 7 (filled (v .«additional_domain_name_and_protocol»))
+    && unless 5 (nonEmpty (v .«additional_flow_description»))
+    && unless 6 (nonEmpty (v .«additional_url»))
+    && unless 7 (nonEmpty (v .«additional_domain_name_and_protocol»))
 
 -- F-TEID and F-SEID need V4 or V6
 abbrev pub fTeid : List ℕ → Bool

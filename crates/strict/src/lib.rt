@@ -17,14 +17,14 @@ ghost use Rattle.pfd_contents.specs.PfdContents.{meaning};
 ghost use Rattle.strict.specs.Strict.{ueIpAddress, fTeid, fSeid, nodeId, outerHeaderCreation, pfdContents, complete};
 
 // No if the reader refused, else what the kind asks.
-fn judged(answer: Answer, asked: bool) -> bool
+fn accepted_and(answer: Answer, asked: bool) -> bool
     ensures { λ r. ⌜ r ≡ eqb (numberOf answer) 0 && asked ⌝ }
 {
     octets::both(answer.number() == 0, asked)
 }
 
 // Whether all was well before, and what bit k of the flags announces is there.
-fn kept(before: bool, flags: u8, k: u8, there: bool) -> bool
+fn still_complete(before: bool, flags: u8, k: u8, there: bool) -> bool
     ensures { λ r. ⌜ r ≡ before && (not (bit k flags) || there) ⌝ }
 {
     octets::both(before, octets::either(!octets::bit(flags, k), there))
@@ -35,19 +35,19 @@ fn complete(record: PfdContents) -> bool
     ensures { λ r. ⌜ ((s : List ℕ) → r ≡ complete (meaning s «record»)) ⌝ }
 {
     let flags = record.flags;
-    let flow = kept(true, flags, 0, record.flow_description.given);
-    let url = kept(flow, flags, 1, record.url.given);
-    let domain = kept(url, flags, 2, record.domain_name.given);
-    let custom = kept(domain, flags, 3, record.custom_pfd_content.given);
-    let protocol = kept(custom, flags, 4, record.domain_name_protocol.given);
-    let flows = kept(
+    let flow = still_complete(true, flags, 0, record.flow_description.given);
+    let url = still_complete(flow, flags, 1, record.url.given);
+    let domain = still_complete(url, flags, 2, record.domain_name.given);
+    let custom = still_complete(domain, flags, 3, record.custom_pfd_content.given);
+    let protocol = still_complete(custom, flags, 4, record.domain_name_protocol.given);
+    let flows = still_complete(
         protocol,
         flags,
         5,
         record.additional_flow_description.count != 0,
     );
-    let urls = kept(flows, flags, 6, record.additional_url.count != 0);
-    kept(
+    let urls = still_complete(flows, flags, 6, record.additional_url.count != 0);
+    still_complete(
         urls,
         flags,
         7,
@@ -58,8 +58,8 @@ fn complete(record: PfdContents) -> bool
 pub fn ue_ip_address(payload: &[u8]) -> bool
     ensures { λ r. ⌜ r ≡ ueIpAddress (now (payload .entry)) ⌝ }
 {
-    let address_answer = UeIpAddress::answer(payload);
-    judged(address_answer, true)
+    let address_answer = UeIpAddress::unmarshal(payload).answer;
+    accepted_and(address_answer, true)
 }
 
 pub fn f_teid(payload: &[u8]) -> bool
@@ -68,7 +68,7 @@ pub fn f_teid(payload: &[u8]) -> bool
     let read = Fteid::unmarshal(payload);
     let answer = read.answer;
     let tunnel = read.record;
-    judged(answer, octets::either(tunnel.v4, tunnel.v6))
+    accepted_and(answer, octets::either(tunnel.v4, tunnel.v6))
 }
 
 pub fn fseid(payload: &[u8]) -> bool
@@ -77,21 +77,21 @@ pub fn fseid(payload: &[u8]) -> bool
     let read = Fseid::unmarshal(payload);
     let answer = read.answer;
     let session = read.record;
-    judged(answer, octets::either(session.v4, session.v6))
+    accepted_and(answer, octets::either(session.v4, session.v6))
 }
 
 pub fn node_id(payload: &[u8]) -> bool
     ensures { λ r. ⌜ r ≡ nodeId (now (payload .entry)) ⌝ }
 {
     let node_answer = NodeId::unmarshal(payload).answer;
-    judged(node_answer, true)
+    accepted_and(node_answer, true)
 }
 
 pub fn outer_header_creation(payload: &[u8]) -> bool
     ensures { λ r. ⌜ r ≡ outerHeaderCreation (now (payload .entry)) ⌝ }
 {
-    let header_answer = OuterHeaderCreation::answer(payload);
-    judged(header_answer, true)
+    let header_answer = OuterHeaderCreation::unmarshal(payload).answer;
+    accepted_and(header_answer, true)
 }
 
 pub fn pfd_contents(payload: &[u8]) -> bool
@@ -100,5 +100,5 @@ pub fn pfd_contents(payload: &[u8]) -> bool
     let read = PfdContents::unmarshal(payload);
     let answer = read.answer;
     let record = read.record;
-    judged(answer, complete(record))
+    accepted_and(answer, complete(record))
 }

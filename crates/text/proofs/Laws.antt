@@ -11,7 +11,7 @@ use lib.ListN.{length, getD, drop, length-drop, drop-of-length-le}
 use lib.Seq.{drop-drop}
 use Rattle.text.specs.declared.Checked.{Checked}
 use Rattle.text.specs.Utf8.{Range, rows, agree, seqLen, walk, goodLen, best, badLen, checked}
-use Rattle.text.specs.Steps.{Starts, Plain, Passed, Stopped}
+use Rattle.text.specs.Steps.{Starts, Ascii, Passed, Stopped}
 use Rattle.text.proofs.Agree.{agree-fits}
 use Rattle.text.proofs.Table.{starts-ascii, whole-row}
 
@@ -110,19 +110,19 @@ passed-ascii s at p q = passed-whole s at 1 true (starts-ascii s at p q) refl
 pub or-ascii : (a b : ℕ) → bitOr a b < 0x80 → (a < 0x80) × (b < 0x80)
 or-ascii a b p = (omega (arith, or-add-and a b, and-le-r a b), omega (arith, or-add-and a b, and-le-l a b))
 
-pub plain-none : (s : List ℕ) (at : ℕ) → at ≤ length s → Plain s at (at + 0)
-plain-none s at p = record { inside = omega arith; each = λ i q r. absurd (omega (arith, q, r)) }
+pub ascii-none : (s : List ℕ) (at : ℕ) → at ≤ length s → Ascii s at (at + 0)
+ascii-none s at p = record { inside = omega arith; each = λ i q r. absurd (omega (arith, q, r)) }
 
-pub plain-more : (s : List ℕ) (from n : ℕ) → Plain s from (from + n) → from + n < length s → getD s (from + n) 0 < 0x80 → Plain s from (from + n + 1)
-plain-more s from n h p q = record { inside = omega arith; each = λ i l u. go i (ltb i (from + n)) refl l u }
+pub ascii-more : (s : List ℕ) (from n : ℕ) → Ascii s from (from + n) → from + n < length s → getD s (from + n) 0 < 0x80 → Ascii s from (from + n + 1)
+ascii-more s from n h p q = record { inside = omega arith; each = λ i l u. go i (ltb i (from + n)) refl l u }
   where
     go : (i : ℕ) (t : Bool) → ltb i (from + n) ≡ t → from ≤ i → i < from + n + 1 → getD s i 0 < 0x80
     go i true e l u = h .each i l (ltb-true _ _ e)
     go i false e l u = let last : i ≡ from + n = omega (arith, ltb-false i (from + n) e) in rw last q
 
 -- ASCII is passed from every place in it on.
-pub passed-plain : (s : List ℕ) (from until at : ℕ) → Plain s from until → from ≤ at → at ≤ until → Passed s at until
-passed-plain s from until at h p q = go (until - at) at p (omega arith)
+pub passed-run : (s : List ℕ) (from until at : ℕ) → Ascii s from until → from ≤ at → at ≤ until → Passed s at until
+passed-run s from until at h p q = go (until - at) at p (omega arith)
   where
     go : (n at : ℕ) → from ≤ at → at + n ≡ until → Passed s at until
     go zero at p e = let end : at ≡ until = omega (arith, e) in rw end (passed-none s until (h .inside))

@@ -31,7 +31,7 @@ pub record Starts (s : List ℕ) (at bytes : ℕ) (whole : Bool) : Type 0 where
   pub some : whole ≡ true → 0 < bytes
 
 -- The bytes of s from one place to another are ASCII.
-pub record Plain (s : List ℕ) (from until : ℕ) : Type 0 where
+pub record Ascii (s : List ℕ) (from until : ℕ) : Type 0 where
   pub inside : until ≤ length s
   pub each : (i : ℕ) → from ≤ i → i < until → getD s i 0 < 0x80
 

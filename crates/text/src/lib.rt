@@ -6,7 +6,7 @@ ghost use Prim.Native.Nat.{_+_, _-_, _<_, _≤_, min, max};
 ghost use lib.ListN.{length, drop, getD};
 ghost use lib.Dec.{eqb};
 ghost use Rattle.text.specs.Utf8.{_to_, within, rows, agree, seqLen, goodLen, best, checked};
-ghost use Rattle.text.specs.Steps.{rangeAt, ranges, rowFor, Starts, Plain, Passed, Stopped};
+ghost use Rattle.text.specs.Steps.{rangeAt, ranges, rowFor, Starts, Ascii, Passed, Stopped};
 
 // A row of Table 3-7 of the Unicode Standard: the least and the greatest first byte, the least and
 // the greatest second, where there is one, and how many bytes there are. A third and a fourth are
@@ -250,7 +250,7 @@ fn stride(text: &[u8], from: usize, end: usize) -> usize
 // Whether the text has so many bytes from `at` on, all of them ASCII.
 fn ascii_at(text: &[u8], at: usize, width: usize) -> bool
     requires { ⌜ (at ≤ length (now text)) × (width ≤ 32) ⌝ }
-    ensures { λ r. ⌜ (r ≡ true → Plain (now (text .entry)) at (at + width)) ⌝ }
+    ensures { λ r. ⌜ (r ≡ true → Ascii (now (text .entry)) at (at + width)) ⌝ }
 {
     if text.len() < at + width {
         return false;

@@ -3,17 +3,14 @@ use Prim.Native.Nat.{ℕ, zero, suc, _+_, _-_, _*_, _≤_, _<_}
 use native.Mathlib.Omega.{arith}
 use mathlib.Core.Path.{_≡_, sym, refl, _∙_}
 use mathlib.Core.List.{List}
-use mathlib.Core.Bool.{Bool, true, false, not, _&&_, and-false, false≢true}
+use mathlib.Core.Bool.{Bool, true, false, not, _&&_, false≢true}
 use borrow.Author.Tests.{le-leb, lt-leb, eq-eqb, ne-eqb, eqb-true, eqb-false, not-true, not-false}
 use lib.Dec.{eqb}
 use lib.ListN.{length}
-use Rattle.answer.specs.declared.Answer.the-variants.{Done, TooLong, BadText}
-use Rattle.octets.specs.Octets.{pick}
+use Rattle.answer.specs.declared.Answer.the-variants.{Done, InputTooLong, BadText}
 use Rattle.kind.specs.Write.{_then_}
 use Rattle.text_fields.specs.Fields.{fieldAt, onField, entryEnd, isList, isEmpty, entries, onEntries, isBehind, bad, added, addRefusal, addedBy, withEntry, list, runOf}
-use Rattle.text_fields.specs.Steps.{newEnd, keptList}
 use Rattle.text_fields.specs.declared.TextList.{TextList}
-use Rattle.text_fields.specs.declared.add.ListAdded.{ListAdded}
 use Rattle.text_fields.specs.declared.fields.Field.{Field}
 use Rattle.text_fields.specs.declared.fields.Field.the-variants.{Absent, Whole, Faulty}
 use Rattle.text_fields.specs.declared.fields.Entries.{Entries}
@@ -72,73 +69,54 @@ module _ (l : TextList) (at : ℕ) {b : Bool} (e : b ≡ isEmpty l) where
       go true q = let z : l .place + l .len ≡ at = eqb-true _ _ q in eq-eqb (at - l .place) (l .len) (omega arith)
       go false q = ne-eqb (at - l .place) (l .len) (λ z. eqb-false (l .place + l .len) at q (omega arith))
 
--- ---- an entry that can be added
-
-module _ (t : List ℕ) (l : TextList) (at : ℕ) where
-  module _ {g : Bool} (e : g ≡ isList t l) where
-    pub new-bad : not g ≡ true → 0 ≡ newEnd t l at
-    unfolding newEnd
-    new-bad h = rw (← e, not-true g h)
-
-    module _ (h : not g ≡ false) {b : Bool} (d : b ≡ isBehind l at) where
-      pub new-apart : not b ≡ true → 0 ≡ newEnd t l at
-      unfolding newEnd
-      new-apart k = rw (← e, not-false g h, ← d, not-true b k)
-
-      pub new-is : {r : ℕ} → not b ≡ false → r ≡ entryEnd t at → r ≡ newEnd t l at
-      unfolding newEnd
-      new-is k q = rw (← e, not-false g h, ← d, not-false b k) q
-
-  module _ {end : ℕ} (e : end ≡ newEnd t l at) where
-    -- what holds of one that can be
-    pub new-known : (end ≡ 0 → ⊥) → (isList t l ≡ true) × (isBehind l at ≡ true) × (end ≡ entryEnd t at)
-    unfolding newEnd
-    new-known h = go (isList t l) (isBehind l at) refl refl e
-      where
-        go : (g b : Bool) → isList t l ≡ g → isBehind l at ≡ b → end ≡ pick g (pick b (entryEnd t at) 0) 0 → (isList t l ≡ true) × (isBehind l at ≡ true) × (end ≡ entryEnd t at)
-        go true true p q e = (p, q, e)
-        go true false p q e = absurd (h e)
-        go false b p q e = absurd (h e)
-
-    pub new-onward : (end ≡ 0 → ⊥) → at ≤ end
-    new-onward h = omega (arith, entry-behind t at end (new-known h .2) h)
-
-    module _ {b : Bool} (k : b ≡ isEmpty l) (n : b ≡ false) where
-      -- it stands where the run ends
-      pub new-place : (end ≡ 0 → ⊥) → l .place ≤ end
-      unfolding isBehind
-      new-place h =
-          let z : l .place + l .len ≡ at = eqb-true _ _ (rw (← k, n) at (new-known h .1)) in
-          omega (arith, new-onward h)
-
-      pub new-count : (end ≡ 0 → ⊥) → l .count ≤ length t
-      new-count h = few t l (new-known h .0) (sym k ∙ n)
-
 -- ---- adding
 
 module _ (t : List ℕ) (l : TextList) (number at : ℕ) where
-  pub add-long : (r : ListAdded) → 65535 < length t → r ≡ keptList (TooLong (length t)) l → r ≡ added number t l at
+  pub add-long : 65535 < length t → record { answer = InputTooLong (length t); list = l } ≡ added number t l at
   unfolding added addRefusal addedBy _then_
-  add-long r h q = rw (lt-leb _ _ h) q
+  add-long h = rw (lt-leb _ _ h)
 
-  module _ (f : length t ≤ 65535) (end : ℕ) (e : end ≡ newEnd t l at) where
-    pub add-none : (r : ListAdded) → end ≡ 0 → r ≡ keptList (BadText number) l → r ≡ added number t l at
-    unfolding added addRefusal addedBy _then_ newEnd
-    add-none r z q = rw (le-leb _ _ f) (go (isList t l) (isBehind l at) (entryEnd t at) (sym e ∙ z))
+  -- the tests as the code joins them: `ok` is both, and `fits` that the entry is there, directly behind the run
+  module _ (f : length t ≤ 65535) (end : ℕ) (e : end ≡ entryEnd t at) (behind fits good ok : Bool)
+      (d : behind ≡ isBehind l at) (p : fits ≡ (not (eqb end 0) && behind)) (g : good ≡ isList t l) (k : ok ≡ (good && fits)) where
+    tested : addRefusal number t l at ≡ bad number ok
+    unfolding addRefusal _then_
+    tested = rw (le-leb _ _ f, ← e, ← d, ← p, ← g, k) (go good fits)
       where
-        go : (g b : Bool) (m : ℕ) → pick g (pick b m 0) 0 ≡ 0 → r ≡ addedBy (bad number g then bad number (not (eqb m 0) && b)) (withEntry t l at) l
-        go true true m z = rw (eq-eqb m 0 z) q
-        go true false m z = rw (and-false (not (eqb m 0))) q
-        go false b m z = q
+        go : (a b : Bool) → (bad number a then bad number b) ≡ bad number (a && b)
+        go true b = refl
+        go false b = refl
 
-    module _ (n : end ≡ 0 → ⊥) (b : Bool) (c : b ≡ isEmpty l) where
-      known : (isList t l ≡ true) × (isBehind l at ≡ true) × (end ≡ entryEnd t at)
-      known = new-known t l at e n
+    pub add-none : not ok ≡ true → record { answer = BadText number; list = l } ≡ added number t l at
+    unfolding added addedBy
+    add-none h = rw (tested, not-true ok h)
 
-      pub add-first : b ≡ true → record { answer = Done; list = runOf at end 1 } ≡ added number t l at
-      unfolding added addRefusal addedBy _then_
-      add-first k = rw (le-leb _ _ f, known .0, known .1, ← known .2, ne-eqb end 0 n, ← c, k)
+    module _ (h : not ok ≡ false) where
+      passed : (good ≡ true) × (not (eqb end 0) ≡ true) × (behind ≡ true)
+      passed =
+          let (a, b) = both-true good fits (sym k ∙ not-false ok h) in
+          let (x, y) = both-true _ _ (sym p ∙ b) in
+          (a, x, y)
 
-      pub add-behind : b ≡ false → record { answer = Done; list = runOf (l .place) end (l .count + 1) } ≡ added number t l at
-      unfolding added addRefusal addedBy _then_
-      add-behind k = rw (le-leb _ _ f, known .0, known .1, ← known .2, ne-eqb end 0 n, ← c, k)
+      pub add-onward : at ≤ end
+      add-onward = omega (arith, entry-behind t at end e (eqb-false end 0 (not-true (eqb end 0) (passed .1))))
+
+      module _ (b : Bool) (c : b ≡ isEmpty l) where
+        pub add-first : b ≡ true → record { answer = Done; list = runOf at end 1 } ≡ added number t l at
+        unfolding added addedBy
+        add-first n = rw (tested, not-false ok h, ← e, ← c, n)
+
+        module _ (n : b ≡ false) where
+          pub add-behind : record { answer = Done; list = runOf (l .place) end (l .count + 1) } ≡ added number t l at
+          unfolding added addedBy
+          add-behind = rw (tested, not-false ok h, ← e, ← c, n)
+
+          -- the entry stands where the run ends
+          pub add-place : l .place ≤ end
+          unfolding isBehind
+          add-place =
+              let z : l .place + l .len ≡ at = eqb-true _ _ (rw (← c, n) at (sym d ∙ passed .2)) in
+              omega (arith, add-onward)
+
+          pub add-count : l .count ≤ length t
+          add-count = few t l (sym g ∙ passed .0) (sym c ∙ n)

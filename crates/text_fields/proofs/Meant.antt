@@ -8,7 +8,7 @@ use borrow.Author.Tests.{eqb-true}
 use lib.Dec.{eqb}
 use lib.ListN.{length, take, drop}
 use lib.Seq.{take-add, drop-drop}
-use Rattle.octets.specs.Octets.{Bytes, field, bytesOf}
+use Rattle.octets.specs.Octets.{Bytes, field, bigEndianBytes}
 use Rattle.octets.proofs.Laws.{length-field, bytes-field}
 use Rattle.text_fields.specs.Fields.{fieldAt, fieldOf, listWire, textsFrom, lengthAt, entries, isList, listMeaning, isEmpty, onEntries}
 use Rattle.text_fields.specs.Steps.{runBytes}
@@ -33,8 +33,8 @@ module _ (s : List ℕ) where
   own b at {p} {n} e =
       let t = whole-end s at (sym e) refl in
       let l : length (field s p n) ≡ n = length-field p n s (t .2) in
-      let two : bytesOf 2 n ≡ field s at 2 = ap (bytesOf 2) (t .1) ∙ bytes-field at 2 s b (omega arith) in
-      ap (λ (k : ℕ). bytesOf 2 k ++ field s p n) l
+      let two : bigEndianBytes 2 n ≡ field s at 2 = ap (bigEndianBytes 2) (t .1) ∙ bytes-field at 2 s b (omega arith) in
+      ap (λ (k : ℕ). bigEndianBytes 2 k ++ field s p n) l
       ∙ ap (λ (x : List ℕ). x ++ field s p n) two
       ∙ ap (λ (k : ℕ). field s at 2 ++ field s k n) (t .0)
       ∙ join at 2 n

@@ -4,71 +4,50 @@ use native.Mathlib.Omega.{arith}
 use mathlib.Core.Path.{_≡_, ap, sym, refl, _∙_}
 use mathlib.Core.List.{List, [], _++_}
 use mathlib.Core.Bool.{Bool, true, false, not}
-use borrow.Author.Tests.{le-leb, lt-leb, leb-true, eq-eqb, ne-eqb, not-true, not-false}
+use borrow.Author.Tests.{le-leb, lt-leb, eq-eqb, ne-eqb, not-true, not-false}
 use lib.Dec.{leb}
 use lib.ListN.{length, take, drop, length-append}
-use Rattle.octets.specs.Octets.{pick, over, put, bytesOf, presence}
-use Rattle.octets.proofs.Laws.{put-not, put-nil, put-behind, length-over, length-bytesOf}
+use Rattle.octets.specs.Octets.{pick, put, bigEndianBytes, presence}
+use Rattle.octets.proofs.Laws.{put-not, put-nil, put-behind, length-put, length-bigEndianBytes}
 use Rattle.text_fields.specs.Fields.{fieldOf, textWire, textMeaning}
-use Rattle.text_fields.specs.Steps.{judged, behindPut, textBytes, runBytes}
+use Rattle.text_fields.specs.Steps.{firstBad, behindPut, textBytes, runBytes}
 use Rattle.text_fields.specs.declared.MaybeText.{MaybeText}
 use Rattle.text_fields.specs.declared.TextList.{TextList}
 
 -- ---- the number of a field that can't be, and 6
 
-pub judged-before : (before number : ℕ) (good : Bool) → (before ≡ 0 → ⊥) → before ≡ judged before good number
-unfolding judged
-judged-before before number good h = rw (ne-eqb before 0 h)
+pub firstBad-before : (before number : ℕ) (good : Bool) → (before ≡ 0 → ⊥) → before ≡ firstBad before good number
+unfolding firstBad
+firstBad-before before number good h = rw (ne-eqb before 0 h)
 
 module _ (before number : ℕ) (good b : Bool) (h : before ≡ 0) (e : b ≡ good) where
-  pub judged-good : b ≡ true → 0 ≡ judged before good number
-  unfolding judged
-  judged-good k = rw (eq-eqb before 0 h, ← e, k)
+  pub firstBad-good : b ≡ true → 0 ≡ firstBad before good number
+  unfolding firstBad
+  firstBad-good k = rw (eq-eqb before 0 h, ← e, k)
 
-  pub judged-bad : b ≡ false → number ≡ judged before good number
-  unfolding judged
-  judged-bad k = rw (eq-eqb before 0 h, ← e, k)
+  pub firstBad-bad : b ≡ false → number ≡ firstBad before good number
+  unfolding firstBad
+  firstBad-bad k = rw (eq-eqb before 0 h, ← e, k)
 
 -- ---- stores
 
-pub length-put : (d : List ℕ) (at : ℕ) (bs : List ℕ) → length (put d at bs) ≡ length d
-unfolding put
-length-put d at bs = go (leb (at + length bs) (length d)) (leb-true _ _)
-  where
-    go : (t : Bool) → (t ≡ true → at + length bs ≤ length d) → length (pick t (over d at bs) d) ≡ length d
-    go true h = length-over d at bs (h refl)
-    go false h = refl
+-- what a store of bytes at a place promises: the place behind them, and the output
+abbrev pub Stored : List ℕ → ℕ → List ℕ → ℕ → List ℕ → Type 0
+Stored d at bs r o = (r ≡ behindPut (length d) at bs) × (o ≡ put d at bs)
 
 module _ (d : List ℕ) (at : ℕ) (bs : List ℕ) where
-  pub no-room : length d < at + length bs → (at ≡ behindPut (length d) at bs) × (d ≡ put d at bs)
+  no-room : length d < at + length bs → Stored d at bs at d
   no-room h = (rw (lt-leb _ _ h), sym (put-not d at bs h))
 
   room : at + length bs ≤ length d → at + length bs ≡ behindPut (length d) at bs
   room h = rw (le-leb _ _ h)
 
-  pub put-there : (o : List ℕ) → at + length bs ≤ length d → o ≡ put d at bs → (at + length bs ≡ behindPut (length d) at bs) × (o ≡ put d at bs)
-  put-there o h q = (room h, q)
-
-  pub field-length : length (fieldOf bs) ≡ 2 + length bs
-  unfolding fieldOf
-  field-length = length-append (bytesOf 2 (length bs)) bs ∙ ap (λ (n : ℕ). n + length bs) (length-bytesOf 2 (length bs))
-
-module _ (d : List ℕ) (at : ℕ) (bs : List ℕ) where
-  pub no-field : length d < at + (2 + length bs) → (at ≡ behindPut (length d) at (fieldOf bs)) × (d ≡ put d at (fieldOf bs))
-  no-field h = no-room d at (fieldOf bs) (omega (arith, field-length d at bs))
-
-  room-field : at + (2 + length bs) ≤ length d → at + 2 + length bs ≡ behindPut (length d) at (fieldOf bs)
-  room-field h =
-      let e : at + 2 + length bs ≡ at + length (fieldOf bs) = omega (arith, field-length d at bs) in
-      e ∙ room d at (fieldOf bs) (omega (arith, field-length d at bs))
-
-  pub field-there : (d1 d2 : List ℕ) → at + (2 + length bs) ≤ length d → d1 ≡ put d at (bytesOf 2 (length bs)) → d2 ≡ put d1 (at + 2) bs
-      → (at + 2 + length bs ≡ behindPut (length d) at (fieldOf bs)) × (d2 ≡ put d at (fieldOf bs))
-  unfolding fieldOf
-  field-there d1 d2 h p q = (room-field h, q ∙ put-behind d d1 at (at + 2) (bytesOf 2 (length bs)) bs p (ap (λ (n : ℕ). at + n) (sym (length-bytesOf 2 (length bs)))) (omega arith))
+pub field-length : (bs : List ℕ) → length (fieldOf bs) ≡ 2 + length bs
+unfolding fieldOf
+field-length bs = length-append (bigEndianBytes 2 (length bs)) bs ∙ ap (λ (n : ℕ). n + length bs) (length-bigEndianBytes 2 (length bs))
 
 -- no bytes are put
-nothing-put : (d : List ℕ) (at : ℕ) → (at ≡ behindPut (length d) at []) × (d ≡ put d at [])
+nothing-put : (d : List ℕ) (at : ℕ) → Stored d at [] at d
 nothing-put d at = (go (leb (at + 0) (length d)), sym (put-nil d at))
   where
     go : (t : Bool) → at ≡ pick t (at + 0) at
@@ -85,23 +64,31 @@ pub some-text : (t : List ℕ) (x : MaybeText) (p : List ℕ) → not (x .given)
 unfolding textWire textMeaning presence
 some-text t x p h e = rw (not-false (x .given) h, e)
 
-module _ (t : List ℕ) (x : MaybeText) where
-  pub none-put : (d : List ℕ) (at : ℕ) → not (x .given) ≡ true → (at ≡ behindPut (length d) at (textBytes t x)) × (d ≡ put d at (textBytes t x))
-  none-put d at h = rw (no-text t x h) (nothing-put d at)
+module _ (d : List ℕ) (at : ℕ) (t : List ℕ) where
+  module _ (x : MaybeText) where
+    pub none-put : not (x .given) ≡ true → Stored d at (textBytes t x) at d
+    none-put h = rw (no-text t x h) (nothing-put d at)
 
-  module _ (p : List ℕ) (h : not (x .given) ≡ false) (e : p ≡ take (x .len) (drop (x .place) t)) where
-    pub text-answer : (n at r : ℕ) → r ≡ behindPut n at (fieldOf p) → r ≡ behindPut n at (textBytes t x)
-    text-answer n at r q = rw (some-text t x p h e) q
+    module _ (h : not (x .given) ≡ false) (p : List ℕ) (e : p ≡ take (x .len) (drop (x .place) t)) where
+      pub text-not : length d < at + (2 + length p) → Stored d at (textBytes t x) at d
+      text-not g = rw (some-text t x p h e) (no-room d at (fieldOf p) (omega (arith, field-length p)))
 
-    pub text-output : (d o : List ℕ) (at : ℕ) → o ≡ put d at (fieldOf p) → o ≡ put d at (textBytes t x)
-    text-output d o at q = rw (some-text t x p h e) q
+      pub text-put : (d1 d2 : List ℕ) → at + (2 + length p) ≤ length d → d1 ≡ put d at (bigEndianBytes 2 (length p)) → d2 ≡ put d1 (at + 2) p
+          → Stored d at (textBytes t x) (at + 2 + length p) d2
+      unfolding fieldOf
+      text-put d1 d2 g q1 q2 =
+          let n : at + 2 + length p ≡ at + length (fieldOf p) = omega (arith, field-length p) in
+          rw (some-text t x p h e) (
+            n ∙ room d at (fieldOf p) (omega (arith, field-length p)),
+            q2 ∙ put-behind d d1 at (at + 2) (bigEndianBytes 2 (length p)) p q1 (ap (λ (n : ℕ). at + n) (sym (length-bigEndianBytes 2 (length p)))) (omega arith),
+          )
 
-module _ (t : List ℕ) (x : TextList) (p : List ℕ) (e : p ≡ take (x .len) (drop (x .place) t)) where
-  pub list-answer : (n at r : ℕ) → r ≡ behindPut n at p → r ≡ behindPut n at (runBytes t x)
-  list-answer n at r q = rw (← e) q
+  module _ (x : TextList) (p : List ℕ) (e : p ≡ take (x .len) (drop (x .place) t)) where
+    pub list-not : length d < at + length p → Stored d at (runBytes t x) at d
+    list-not g = rw (← e) (no-room d at p g)
 
-  pub list-output : (d o : List ℕ) (at : ℕ) → o ≡ put d at p → o ≡ put d at (runBytes t x)
-  list-output d o at q = rw (← e) q
+    pub list-put : (o : List ℕ) → at + length p ≤ length d → o ≡ put d at p → Stored d at (runBytes t x) (at + length p) o
+    list-put o g q = rw (← e) (room d at p g, q)
 
 -- ---- one behind the other
 
@@ -110,7 +97,7 @@ pub record Wrote (d xs o : List ℕ) (at : ℕ) : Type 0 where
   pub holds : length xs ≤ length d → (o ≡ put d 0 xs) × (at ≡ length xs) × (length o ≡ length d)
 
 -- one more store, as a callee says it
-pub more : {d xs o o′ : List ℕ} {at at′ : ℕ} (ys : List ℕ) → Wrote d xs o at → (at′ ≡ behindPut (length o) at ys) × (o′ ≡ put o at ys) → Wrote d (xs ++ ys) o′ at′
+pub more : {d xs o o′ : List ℕ} {at at′ : ℕ} (ys : List ℕ) → Wrote d xs o at → Stored o at ys at′ o′ → Wrote d (xs ++ ys) o′ at′
 more {d} {xs} {o} {o′} {at} {at′} ys w e = record { holds = go }
   where
     go : length (xs ++ ys) ≤ length d → (o′ ≡ put d 0 (xs ++ ys)) × (at′ ≡ length (xs ++ ys)) × (length o′ ≡ length d)
@@ -122,5 +109,6 @@ more {d} {xs} {o} {o′} {at} {at′} ys w e = record { holds = go }
           ap length (e .1) ∙ length-put o at ys ∙ l,
         )
 
-pub begun : (d : List ℕ) → Wrote d [] d 0
-begun d = record { holds = λ h. (sym (put-nil d 0), refl, refl) }
+-- the first
+pub begun : (d xs : List ℕ) {o : List ℕ} → o ≡ put d 0 xs → Wrote d xs o (length xs)
+begun d xs e = record { holds = λ h. (e, refl, ap length e ∙ length-put d 0 xs) }

@@ -6,11 +6,11 @@ use mathlib.Core.Option.{Option, none, some}
 use lib.Dec.{ltb, eqb}
 use lib.ListN.{length}
 use Rattle.answer.specs.declared.Answer.{Answer}
-use Rattle.answer.specs.declared.Answer.the-variants.{Done, BadText}
-use Rattle.octets.specs.Octets.{pick, field, bigEndian, bytesOf, presence}
+use Rattle.answer.specs.declared.Answer.the-variants.{Done, Short, NotUtf8, BadText}
+use Rattle.octets.specs.Octets.{pick, field, bigEndian, bigEndianBytes, presence}
 use Rattle.text.specs.Utf8.{goodLen}
 use Rattle.texts.specs.Texts.{isText}
-use Rattle.kind.specs.Write.{_then_, lent}
+use Rattle.kind.specs.Write.{_then_, tooLongInput}
 use Rattle.text_fields.specs.declared.MaybeText.{MaybeText}
 use Rattle.text_fields.specs.declared.TextList.{TextList}
 use Rattle.text_fields.specs.declared.Fault.{Fault}
@@ -44,7 +44,7 @@ listMeaning texts x = textsFrom (x .count) texts (x .place)
 -- ---- their written form
 
 unfoldable pub fieldOf : List ℕ → List ℕ
-fieldOf t = bytesOf 2 (length t) ++ t
+fieldOf t = bigEndianBytes 2 (length t) ++ t
 
 unfoldable pub textWire : Option (List ℕ) → List ℕ
 textWire none = []
@@ -90,6 +90,11 @@ noList = record { place = 0; len = 0; count = 0 }
 
 abbrev pub runOf : ℕ → ℕ → ℕ → TextList
 runOf from to count = record { place = from; len = to - from; count = count }
+
+-- 1 with field 10 for a length past the end, 4 for a text that isn't UTF-8
+abbrev pub answerOf : Fault → Answer
+answerOf (Past end len) = Short 10 end len
+answerOf (Garbled place) = NotUtf8 place
 
 -- what a step of a reader takes and the place behind it, or the fault that it meets
 pub data Step (A : Type 0) : Type 0 where
@@ -137,7 +142,7 @@ isBehind l at = isEmpty l || eqb (l .place + l .len) at
 
 -- 5, then 6: the list so far, and an entry that is there and stands behind it
 unfoldable pub addRefusal : ℕ → List ℕ → TextList → ℕ → Option Answer
-addRefusal number texts l at = lent (length texts) then bad number (isList texts l) then bad number (not (eqb (entryEnd texts at) 0) && isBehind l at)
+addRefusal number texts l at = tooLongInput (length texts) then bad number (isList texts l) then bad number (not (eqb (entryEnd texts at) 0) && isBehind l at)
 
 -- the run with the entry
 abbrev pub withEntry : List ℕ → TextList → ℕ → TextList

@@ -1,19 +1,17 @@
--- What the steps of the reader, the writer and the adding call promise: nothing here is the paper's.
+-- What the steps of the reader and the writer promise: nothing here is the paper's.
 use Prim.Native.Nat.{ℕ, _+_}
 use mathlib.Core.List.{List}
 use mathlib.Core.Bool.{Bool}
 use lib.ListN.{length}
 use lib.Dec.{leb, eqb}
 use Rattle.octets.specs.Octets.{pick, field}
-use Rattle.answer.specs.declared.Answer.{Answer}
-use Rattle.text_fields.specs.Fields.{text, Step, took, broke, noText, list, noList, textWire, textMeaning, isList, isBehind, entryEnd}
+use Rattle.text_fields.specs.Fields.{text, Step, took, broke, noText, list, noList, textWire, textMeaning}
 use Rattle.text_fields.specs.declared.MaybeText.{MaybeText}
 use Rattle.text_fields.specs.declared.TextList.{TextList}
 use Rattle.text_fields.specs.declared.Walk.{Walk}
 use Rattle.text_fields.specs.declared.Walk.the-variants.{At, Stopped}
 use Rattle.text_fields.specs.declared.TextStep.{TextStep}
 use Rattle.text_fields.specs.declared.ListStep.{ListStep}
-use Rattle.text_fields.specs.declared.add.ListAdded.{ListAdded}
 
 -- a step as the code holds it
 abbrev pub textTo : Step MaybeText → TextStep
@@ -49,12 +47,5 @@ abbrev pub orElse : ℕ → ℕ → ℕ
 orElse a b = pick (eqb a 0) b a
 
 -- the number of the first field that can't be, 0 for none: the one found before, or this one's
-unfoldable pub judged : ℕ → Bool → ℕ → ℕ
-judged before good number = orElse before (pick good 0 number)
-
--- the place behind an entry that can be added, 0 for none
-unfoldable pub newEnd : List ℕ → TextList → ℕ → ℕ
-newEnd texts l at = pick (isList texts l) (pick (isBehind l at) (entryEnd texts at) 0) 0
-
-abbrev pub keptList : Answer → TextList → ListAdded
-keptList a l = record { answer = a; list = l }
+unfoldable pub firstBad : ℕ → Bool → ℕ → ℕ
+firstBad before good number = orElse before (pick good 0 number)

@@ -4,18 +4,11 @@ use crate::fields::Field;
 use answer::Answer;
 ghost use mathlib.Core.Path.{_≡_};
 ghost use Rattle.text_fields.specs.Fields.{entryEnd, isBehind, added};
-ghost use Rattle.text_fields.specs.Steps.{newEnd, keptList};
 
 // What adding an entry answers; the list is as before where it is refused.
 pub struct ListAdded {
     pub answer: Answer,
     pub list: TextList,
-}
-
-fn kept_list(answer: Answer, list: TextList) -> ListAdded
-    ensures { λ r. ⌜ r ≡ keptList answer list ⌝ }
-{
-    ListAdded { answer, list }
 }
 
 // The place behind the whole good field at a place, 0 where there is none.
@@ -44,19 +37,6 @@ fn is_behind(list: TextList, at: usize) -> bool
     at - start == len
 }
 
-// The place behind the entry, 0 where it can't be added.
-fn new_end(texts: &[u8], list: TextList, at: usize) -> usize
-    ensures { λ r. ⌜ r ≡ newEnd (now (texts .entry)) list at ⌝ }
-{
-    if !crate::fields::is_list(texts, list) {
-        return 0;
-    }
-    if !is_behind(list, at) {
-        return 0;
-    }
-    entry_end(texts, at)
-}
-
 impl TextList {
     // The list with the entry at a place; the list's field number goes into a refusal.
     pub fn with_entry(self, texts: &[u8], field: u8, at: usize) -> ListAdded
@@ -64,11 +44,16 @@ impl TextList {
     {
         let n = texts.len();
         if 65535 < n {
-            return kept_list(Answer::TooLong { length: n }, self);
+            return ListAdded {
+                answer: Answer::InputTooLong { length: n },
+                list: self,
+            };
         }
-        let end = new_end(texts, self, at);
-        if end == 0 {
-            return kept_list(Answer::BadText { field }, self);
+        let end = entry_end(texts, at);
+        let fits = octets::both(end != 0, is_behind(self, at));
+        if !octets::both(crate::fields::is_list(texts, self), fits) {
+            let answer = Answer::BadText { field };
+            return ListAdded { answer, list: self };
         }
         let start = self.place;
         let count = self.count;

@@ -1,11 +1,8 @@
-// Fields in wire form, a two-byte length and UTF-8 text each, and the texts and lists that can be.
+// Fields in wire form, a two-byte length and UTF-8 text each, and the lists that can be.
 use crate::Fault;
-use crate::MaybeText;
 use crate::TextList;
-use texts::Text;
 ghost use mathlib.Core.Path.{_≡_};
-ghost use mathlib.Core.Bool.{_&&_};
-ghost use Rattle.text_fields.specs.Fields.{fieldAt, entries, isMaybe, isEmpty, isList};
+ghost use Rattle.text_fields.specs.Fields.{fieldAt, entries, isEmpty, isList};
 
 // What stands at a place: no field, a whole one with its text, or a faulty one.
 pub enum Field {
@@ -62,30 +59,11 @@ pub(crate) fn entries_at(s: &[u8], at: usize, most: usize) -> Entries
     Entries::Run { count, next }
 }
 
-// A text that is absent, or good in its slice.
-pub(crate) fn is_maybe(texts: &[u8], x: MaybeText) -> bool
-    ensures { λ r. ⌜ r ≡ isMaybe (now (texts .entry)) x ⌝ }
-{
-    let given = x.given;
-    let place = x.place;
-    let len = x.len;
-    if !given {
-        return true;
-    }
-    Text { place, len }.is_good(texts)
-}
-
-fn both(a: bool, b: bool) -> bool
-    ensures { λ r. ⌜ r ≡ (a && b) ⌝ }
-{
-    a && b
-}
-
 impl TextList {
     pub fn is_empty(self) -> bool
         ensures { λ r. ⌜ r ≡ isEmpty self ⌝ }
     {
-        both(self.count == 0, self.len == 0)
+        octets::both(self.count == 0, self.len == 0)
     }
 }
 
@@ -100,7 +78,7 @@ pub(crate) fn is_list(texts: &[u8], x: TextList) -> bool
         return true;
     }
     match entries_at(texts, place, count) {
-        Entries::Run { count: k, next } => both(k == count, next - place == len),
+        Entries::Run { count: k, next } => octets::both(k == count, next - place == len),
         Entries::Broken(_) => false,
     }
 }

@@ -5,10 +5,9 @@ mod read;
 mod write;
 
 pub use add::ListAdded;
+use answer::Answer;
 ghost use mathlib.Core.Path.{_≡_};
-ghost use lib.ListN.{length};
-ghost use Rattle.octets.specs.Octets.{put};
-ghost use Rattle.text_fields.specs.Steps.{behindPut};
+ghost use Rattle.text_fields.specs.Fields.{answerOf};
 
 // A text that may be absent: its place and its length.
 pub struct MaybeText {
@@ -62,17 +61,18 @@ impl TextList {
     };
 }
 
-// Puts bytes at a place and says the place behind them. Bytes that don't fit aren't put.
-pub fn put_run(out: &mut [u8], at: usize, bs: &[u8]) -> usize
-    ensures { λ r. ⌜ r ≡ behindPut (length (now (out .entry))) at (now (bs .entry)) ⌝ }
-    ensures { λ r. ⌜ now (out .exit) ≡ put (now (out .entry)) at (now (bs .entry)) ⌝ }
-{
-    if out.len() < bs.len() {
-        return at;
+impl Fault {
+    // The answer to a payload that has it.
+    pub fn answer(self) -> Answer
+        ensures { λ r. ⌜ r ≡ answerOf self ⌝ }
+    {
+        match self {
+            Fault::Past { end, len } => Answer::Short {
+                field: 10,
+                expected: end,
+                actual: len,
+            },
+            Fault::Garbled { place } => Answer::NotUtf8 { place },
+        }
     }
-    if out.len() - bs.len() < at {
-        return at;
-    }
-    octets::put_bytes(out, at, bs);
-    at + bs.len()
 }

@@ -8,9 +8,9 @@ use Rattle.text.specs.Utf8.{goodLen}
 use Rattle.texts.specs.declared.Text.{Text}
 
 -- the bytes of a text
-abbrev pub bytesOf : List ℕ → Text → List ℕ
-bytesOf texts t = take (t .len) (drop (t .place) texts)
+abbrev pub bytesOfText : List ℕ → Text → List ℕ
+bytesOfText texts t = take (t .len) (drop (t .place) texts)
 
 -- it ends within its slice and is UTF-8
 unfoldable pub isText : List ℕ → Text → Bool
-isText texts t = leb (t .place + t .len) (length texts) && eqb (goodLen (bytesOf texts t)) (t .len)
+isText texts t = leb (t .place + t .len) (length texts) && eqb (goodLen (bytesOfText texts t)) (t .len)

@@ -1,7 +1,7 @@
 // Texts as places in a lent slice.
 ghost use mathlib.Core.Path.{_≡_};
 ghost use lib.ListN.{take, drop};
-ghost use Rattle.texts.specs.Texts.{isText, bytesOf};
+ghost use Rattle.texts.specs.Texts.{isText, bytesOfText};
 
 // A text: its place and its length in a slice that goes with it.
 pub struct Text {
@@ -12,7 +12,7 @@ pub struct Text {
 impl Text {
     // The bytes of a text, as far as the slice has them.
     pub fn of(self, texts: &[u8]) -> &[u8]
-        ensures { λ r. ⌜ now r ≡ bytesOf (now (texts .entry)) self ⌝ }
+        ensures { λ r. ⌜ now r ≡ bytesOfText (now (texts .entry)) self ⌝ }
     {
         let place = self.place;
         let len = self.len;

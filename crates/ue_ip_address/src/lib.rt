@@ -8,7 +8,7 @@ ghost use mathlib.Core.Path.{_≡_};
 ghost use lib.ListN.{length};
 ghost use Rattle.octets.specs.Octets.{put};
 ghost use Rattle.answer.specs.Paper.{written};
-ghost use Rattle.ue_ip_address.specs.UeIpAddress.{broken, made, chosen, meaning, wire, read, refused};
+ghost use Rattle.ue_ip_address.specs.UeIpAddress.{breaksRule1, breaksRule2, breaksRule3, brokenRule, made, choosing, meaning, wire, maxLen, read, refused};
 
 pub struct UeIpAddress {
     pub v4: bool,
@@ -42,26 +42,50 @@ fn refused(answer: Answer) -> UeIpAddressRead
     }
 }
 
-// The first rule that flags break, 0 for none. Most payloads have none of the flags that a rule speaks of.
-fn broken_rule(v4: bool, v6: bool, ipv6d: bool, chv4: bool, chv6: bool, ip6pl: bool) -> u8
-    ensures { λ r. ⌜ r ≡ broken v4 v6 ipv6d chv4 chv6 ip6pl ⌝ }
+// Whether flags break rule 1: V4 with CHV4, or V6 with CHV6. Most have neither choice, and then one test is enough.
+pub fn breaks_rule_1(flags: u8) -> bool
+    ensures { λ r. ⌜ r ≡ breaksRule1 flags ⌝ }
 {
-    if !octets::either(octets::either(ipv6d, ip6pl), octets::either(chv4, chv6)) {
-        return 0;
+    let chv4 = octets::bit(flags, 4);
+    let chv6 = octets::bit(flags, 5);
+    if !octets::either(chv4, chv6) {
+        return false;
     }
-    if octets::either(octets::both(v4, chv4), octets::both(v6, chv6)) {
+    let ipv4 = octets::both(octets::bit(flags, 1), chv4);
+    let ipv6 = octets::both(octets::bit(flags, 0), chv6);
+    octets::either(ipv4, ipv6)
+}
+
+// Rule 2: IPv6D with IP6PL.
+pub fn breaks_rule_2(flags: u8) -> bool
+    ensures { λ r. ⌜ r ≡ breaksRule2 flags ⌝ }
+{
+    octets::both(octets::bit(flags, 3), octets::bit(flags, 6))
+}
+
+// Rule 3: either of these without V6 or CHV6.
+pub fn breaks_rule_3(flags: u8) -> bool
+    ensures { λ r. ⌜ r ≡ breaksRule3 flags ⌝ }
+{
+    let prefixed = octets::either(octets::bit(flags, 3), octets::bit(flags, 6));
+    let ipv6 = octets::either(octets::bit(flags, 0), octets::bit(flags, 5));
+    octets::both(prefixed, !ipv6)
+}
+
+// The first rule that flags break, 0 for none.
+fn broken_rule(flags: u8) -> u8
+    ensures { λ r. ⌜ r ≡ brokenRule flags ⌝ }
+{
+    if breaks_rule_1(flags) {
         return 1;
     }
-    if !octets::either(ipv6d, ip6pl) {
-        return 0;
-    }
-    if octets::both(ipv6d, ip6pl) {
+    if breaks_rule_2(flags) {
         return 2;
     }
-    if octets::either(v6, chv6) {
-        return 0;
+    if breaks_rule_3(flags) {
+        return 3;
     }
-    3
+    0
 }
 
 impl UeIpAddress {
@@ -69,6 +93,13 @@ impl UeIpAddress {
     pub const MIN_LEN: usize = 1;
 
     pub const MAX_LEN: usize = 22;
+
+    // The second as a promise: a constant has none. `unmarshal` promises the first.
+    pub fn max_len() -> usize
+        ensures { λ r. ⌜ r ≡ maxLen ⌝ }
+    {
+        UeIpAddress::MAX_LEN
+    }
 
     // V4 and V6 from the addresses given.
     pub fn new(ipv4_address: MaybeIpv4, ipv6_address: MaybeIpv6) -> UeIpAddress
@@ -91,7 +122,7 @@ impl UeIpAddress {
 
     // No address yet: the user plane is to choose.
     pub fn choose(ipv4: bool, ipv6: bool) -> UeIpAddress
-        ensures { λ r. ⌜ r ≡ chosen ipv4 ipv6 ⌝ }
+        ensures { λ r. ⌜ r ≡ choosing ipv4 ipv6 ⌝ }
     {
         let mut chosen = UeIpAddress::new(MaybeIpv4::ABSENT, MaybeIpv6::ABSENT);
         chosen.choose_ipv4 = ipv4;
@@ -99,89 +130,61 @@ impl UeIpAddress {
         chosen
     }
 
-    // What reading a payload answers, without the record.
-    pub fn answer(payload: &[u8]) -> Answer
-        ensures { λ r. ⌜ r ≡ read (now (payload .entry)) .answer ⌝ }
-    {
-        let n = payload.len();
-        if 65535 < n {
-            return Answer::TooLong { length: n };
-        }
-        if n < UeIpAddress::MIN_LEN {
-            return Answer::Short {
-                field: 0,
-                expected: UeIpAddress::MIN_LEN,
-                actual: n,
-            };
-        }
-        let flags = payload[0];
-        let v6 = octets::bit(flags, 0);
-        let v4 = octets::bit(flags, 1);
-        let ipv6d = octets::bit(flags, 3);
-        let chv4 = octets::bit(flags, 4);
-        let chv6 = octets::bit(flags, 5);
-        let ip6pl = octets::bit(flags, 6);
-        let rule = broken_rule(v4, v6, ipv6d, chv4, chv6, ip6pl);
-        if rule != 0 {
-            return Answer::Flags { byte: flags, rule };
-        }
-        let end4 = UeIpAddress::MIN_LEN + octets::under(v4, 4);
-        let end6 = end4 + octets::under(v6, 16);
-        let end_bits = end6 + octets::under(ipv6d, 1);
-        let end = end_bits + octets::under(ip6pl, 1);
-        if n < end {
-            if n < end4 {
-                return Answer::Short {
-                    field: 1,
-                    expected: end4,
-                    actual: n,
-                };
-            }
-            if n < end6 {
-                return Answer::Short {
-                    field: 2,
-                    expected: end6,
-                    actual: n,
-                };
-            }
-            if n < end_bits {
-                return Answer::Short {
-                    field: 3,
-                    expected: end_bits,
-                    actual: n,
-                };
-            }
-            return Answer::Short {
-                field: 4,
-                expected: end,
-                actual: n,
-            };
-        }
-        Answer::Done
-    }
-
-    // The address that an image stores first is read last, so that the two ways of a field that may be absent meet once.
     pub fn unmarshal(payload: &[u8]) -> UeIpAddressRead
         ensures { λ r. ⌜ r ≡ read (now (payload .entry)) ⌝ }
     {
-        let answer = UeIpAddress::answer(payload);
-        if answer.number() != 0 {
-            return refused(answer);
+        let n = payload.len();
+        if 65535 < n {
+            return refused(Answer::InputTooLong { length: n });
+        }
+        if n < UeIpAddress::MIN_LEN {
+            return refused(Answer::Short {
+                field: 0,
+                expected: UeIpAddress::MIN_LEN,
+                actual: n,
+            });
         }
         let flags = payload[0];
-        let v6 = octets::bit(flags, 0);
+        let rule = broken_rule(flags);
+        if rule != 0 {
+            return refused(Answer::Flags { byte: flags, rule });
+        }
         let v4 = octets::bit(flags, 1);
-        let source_destination = octets::bit(flags, 2);
-        let ipv6_prefix_delegation = octets::bit(flags, 3);
-        let choose_ipv4 = octets::bit(flags, 4);
-        let choose_ipv6 = octets::bit(flags, 5);
-        let ipv6_prefix_length_present = octets::bit(flags, 6);
-        let end4 = UeIpAddress::MIN_LEN + octets::under(v4, 4);
-        let end6 = end4 + octets::under(v6, 16);
-        let end_bits = end6 + octets::under(ipv6_prefix_delegation, 1);
-        let end = end_bits + octets::under(ipv6_prefix_length_present, 1);
-        let ipv6_prefix_delegation_bits = MaybeU8::of(&payload[end6..end_bits]);
-        let ipv6_prefix_length = MaybeU8::of(&payload[end_bits..end]);
+        let end4 = UeIpAddress::MIN_LEN + octets::if_set(v4, 4);
+        if n < end4 {
+            return refused(Answer::Short {
+                field: 1,
+                expected: end4,
+                actual: n,
+            });
+        }
+        let v6 = octets::bit(flags, 0);
+        let end6 = end4 + octets::if_set(v6, 16);
+        if n < end6 {
+            return refused(Answer::Short {
+                field: 2,
+                expected: end6,
+                actual: n,
+            });
+        }
+        let ipv6d = octets::bit(flags, 3);
+        let end_bits = end6 + octets::if_set(ipv6d, 1);
+        if n < end_bits {
+            return refused(Answer::Short {
+                field: 3,
+                expected: end_bits,
+                actual: n,
+            });
+        }
+        let ip6pl = octets::bit(flags, 6);
+        let end = end_bits + octets::if_set(ip6pl, 1);
+        if n < end {
+            return refused(Answer::Short {
+                field: 4,
+                expected: end,
+                actual: n,
+            });
+        }
         let ipv4_address = MaybeIpv4::of(&payload[1..end4]);
         let ipv6_address = MaybeIpv6::of(&payload[end4..end6]);
         UeIpAddressRead {
@@ -190,15 +193,15 @@ impl UeIpAddress {
             record: UeIpAddress {
                 v4,
                 v6,
-                source_destination,
-                ipv6_prefix_delegation,
-                choose_ipv4,
-                choose_ipv6,
-                ipv6_prefix_length_present,
+                source_destination: octets::bit(flags, 2),
+                ipv6_prefix_delegation: ipv6d,
+                choose_ipv4: octets::bit(flags, 4),
+                choose_ipv6: octets::bit(flags, 5),
+                ipv6_prefix_length_present: ip6pl,
                 ipv4_address,
                 ipv6_address,
-                ipv6_prefix_delegation_bits,
-                ipv6_prefix_length,
+                ipv6_prefix_delegation_bits: MaybeU8::of(&payload[end6..end_bits]),
+                ipv6_prefix_length: MaybeU8::of(&payload[end_bits..end]),
             },
         }
     }
@@ -211,10 +214,10 @@ impl UeIpAddress {
         let ipv6_address = self.ipv6_address;
         let bits = self.ipv6_prefix_delegation_bits;
         let prefix = self.ipv6_prefix_length;
-        let end4 = UeIpAddress::MIN_LEN + octets::under(ipv4_address.given, 4);
-        let end6 = end4 + octets::under(ipv6_address.given, 16);
-        let end_bits = end6 + octets::under(bits.given, 1);
-        let end = end_bits + octets::under(prefix.given, 1);
+        let end4 = UeIpAddress::MIN_LEN + octets::if_set(ipv4_address.given, 4);
+        let end6 = end4 + octets::if_set(ipv6_address.given, 16);
+        let end_bits = end6 + octets::if_set(bits.given, 1);
+        let end = end_bits + octets::if_set(prefix.given, 1);
         if out.len() < end {
             return Written {
                 answer: Answer::NoRoom { needed: end },

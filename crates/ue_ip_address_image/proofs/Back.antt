@@ -1,22 +1,20 @@
 -- What stands in the image of a read is the record that was read, and writing it gives the cleared payload. No contract cites this file.
 use Prim.Native.Nat.{ℕ, _+_, _≤_}
 use native.Mathlib.Omega.{arith}
-use mathlib.Core.Path.{_≡_, ap, _∙_}
+use mathlib.Core.Path.{_≡_, refl, ap, _∙_}
 use mathlib.Core.Bool.{Bool, false}
 use mathlib.Core.List.{List, [], _∷_}
-use lib.ListN.{length, take, drop, getD, length-append}
-use borrow.Author.Tests.{le-leb}
-use Rattle.answer.specs.declared.Answer.the-variants.{Done}
+use lib.ListN.{length, getD, length-append}
 use Rattle.octets.specs.declared.MaybeU8.{MaybeU8}
-use Rattle.octets.specs.Octets.{bit, under, Bytes, field, ipv4Of, ipv6Of, u8Of}
+use Rattle.octets.specs.Octets.{bit, ifSet, field, ipv4Of, ipv6Of, u8Of}
 use Rattle.kind.specs.Layout.{Outcome, accepts, refuses, outcome}
-use Rattle.kind.specs.Kind.{Reads}
 use Rattle.ue_ip_address.specs.declared.UeIpAddress.{UeIpAddress}
-use Rattle.ue_ip_address.specs.UeIpAddress.{Value, meaning, wire, layout, recordOf, refused, found, read, reader}
-use Rattle.ue_ip_address.proofs.OfKind.{kind, demands}
-use Rattle.image.specs.Image.{laid}
-use Rattle.image.proofs.Back.{flag-back, last, byte, length4, length6, ipv4, ipv6, ImageOf, image-left}
-use Rattle.ue_ip_address_image.specs.UeIpAddressImage.{recordImage, imageOf, recordAt, form, writes, stores}
+use Rattle.ue_ip_address.specs.UeIpAddress.{meaning, wire, layout, recordOf, refused, found, read}
+use Rattle.ue_ip_address.proofs.OfKind.{kind}
+use Rattle.image.specs.Image.{readImage}
+use Rattle.image.proofs.Back.{flag-back, last, byte, length4, length6, ipv4, ipv6, ImageOf, image-left, Again}
+use Rattle.image.proofs.Back as image
+use Rattle.ue_ip_address_image.specs.UeIpAddressImage.{size, recordImage, imageOf, recordAt, writtenForm, writes, stores}
 
 -- a record as a reader makes it
 abbrev its : (v4 v6 sd ipv6d chv4 chv6 ip6pl : Bool) (p q : List ℕ) (bits long : MaybeU8) → UeIpAddress
@@ -38,9 +36,9 @@ its v4 v6 sd ipv6d chv4 chv6 ip6pl p q bits long =
 abbrev Kept : UeIpAddress → Type 0
 Kept r = ImageOf 24 recordAt (recordImage r) r
 
-image : (v4 v6 sd ipv6d chv4 chv6 ip6pl : Bool) (p q : List ℕ) (bits long : MaybeU8) → Kept (its v4 v6 sd ipv6d chv4 chv6 ip6pl p q bits long)
+laid : (v4 v6 sd ipv6d chv4 chv6 ip6pl : Bool) (p q : List ℕ) (bits long : MaybeU8) → Kept (its v4 v6 sd ipv6d chv4 chv6 ip6pl p q bits long)
 unfolding recordImage recordAt
-image v4 v6 sd ipv6d chv4 chv6 ip6pl p q bits long =
+laid v4 v6 sd ipv6d chv4 chv6 ip6pl p q bits long =
     let flags = v6 ∷ v4 ∷ sd ∷ ipv6d ∷ chv4 ∷ chv6 ∷ ip6pl ∷ [] in
     let given = ipv4Of p .given ∷ ipv6Of q .given ∷ bits .given ∷ long .given ∷ [] in
     record {
@@ -52,62 +50,35 @@ image v4 v6 sd ipv6d chv4 chv6 ip6pl p q bits long =
           let (e₃, h₄) = byte h₃ in
           let (e₄, h₅) = ipv4 p h₄ in
           let (e₅, h₆) = ipv6 q (last h₅) in
-          rw (
-            e₀,
-            e₁,
-            flag-back flags 0,
-            flag-back flags 1,
-            flag-back flags 2,
-            flag-back flags 3,
-            flag-back flags 4,
-            flag-back flags 5,
-            flag-back flags 6,
-            flag-back given 0,
-            flag-back given 1,
-            flag-back given 2,
-            flag-back given 3,
-            e₂,
-            e₃,
-            e₄,
-            e₅,
-          );
+          rw (e₀, e₁, flag-back flags 0, flag-back flags 1, flag-back flags 2, flag-back flags 3)
+          (rw (flag-back flags 4, flag-back flags 5, flag-back flags 6, flag-back given 0)
+          (rw (flag-back given 1, flag-back given 2, flag-back given 3, e₂, e₃, e₄, e₅)));
     }
 
 by-outcome : (s : List ℕ) (o : Outcome) → Kept (found s o .«record»)
 unfolding found refused recordOf
 by-outcome s (accepts n) =
     let flag : ℕ → Bool = λ k. bit k (getD s 0 0) in
-    let end4 = 1 + under (flag 1) 4 in
-    let end6 = end4 + under (flag 0) 16 in
-    let endBits = end6 + under (flag 3) 1 in
-    image (flag 1) (flag 0) (flag 2) (flag 3) (flag 4) (flag 5) (flag 6)
-    (field s 1 (under (flag 1) 4))
-    (field s end4 (under (flag 0) 16))
-    (u8Of (field s end6 (under (flag 3) 1)))
-    (u8Of (field s endBits (under (flag 6) 1)))
-by-outcome s (refuses a) = image false false false false false false false [] [] (u8Of []) (u8Of [])
+    let end4 = 1 + ifSet (flag 1) 4 in
+    let end6 = end4 + ifSet (flag 0) 16 in
+    let endBits = end6 + ifSet (flag 3) 1 in
+    laid (flag 1) (flag 0) (flag 2) (flag 3) (flag 4) (flag 5) (flag 6)
+    (field s 1 (ifSet (flag 1) 4))
+    (field s end4 (ifSet (flag 0) 16))
+    (u8Of (field s end6 (ifSet (flag 3) 1)))
+    (u8Of (field s endBits (ifSet (flag 6) 1)))
+by-outcome s (refuses a) = laid false false false false false false false [] [] (u8Of []) (u8Of [])
 
 -- the memory that a read of s left
 abbrev pub left : List ℕ → List ℕ → List ℕ
-left s d = laid 64 d (imageOf (read s))
+left s d = readImage size d (imageOf (read s))
 
 -- the record that stands there is the one that was read
-pub kept : (s d : List ℕ) → 64 ≤ length d → recordAt (left s d) ≡ read s .«record»
+pub record-in-image : (s d : List ℕ) → size ≤ length d → recordAt (left s d) ≡ read s .«record»
 unfolding read
-kept s d room = image-left 24 (by-outcome s (outcome layout s)) _ _ d room
+record-in-image s d room = image-left 24 (by-outcome s (outcome layout s)) _ _ d room
 
--- and so, where the read was done, the form that writing it gives is the cleared payload
-module _ {s : List ℕ} {v : Value} {n : ℕ} (r : Reads reader s v n) (d : List ℕ) (room : 64 ≤ length d) where
-  same-form : form (left s d) ≡ wire v
-  same-form = ap (λ (x : UeIpAddress). wire (meaning x)) (kept s d room) ∙ ap wire (r .value)
-
-  pub written-again : form (left s d) ≡ kind .clear (take n s)
-  written-again = same-form ∙ kind .written r
-
-  -- with room for it the write is done, it stores just that, and no byte behind it changes
-  pub stored-again : (out : List ℕ) → length (wire v) ≤ length out
-      → (writes (left s d) out ≡ record { answer = Done; len = length (wire v) })
-      × (take (length (wire v)) (stores (left s d) out) ≡ kind .clear (take n s))
-      × (drop (length (wire v)) (stores (left s d) out) ≡ drop (length (wire v)) out)
-  unfolding writes stores
-  stored-again out h = let (just, behind) = demands .stored r out h in rw same-form (rw (le-leb _ _ h), just, behind)
+-- and so, where the read was done, writing it again gives the cleared payload
+pub again : Again kind size left (λ m s. writtenForm m) (λ m s. writes m) (λ m s. stores m)
+unfolding writes stores
+again = image.again kind size left _ _ _ (λ s v n r d room. ap (λ (x : UeIpAddress). wire (meaning x)) (record-in-image s d room) ∙ ap wire (r .value)) (λ s v n r d room out. (refl, refl))

@@ -1,21 +1,41 @@
--- The UE IP Address in a record image of 64 bytes: the head, then at
---   40  flags: bit 0 V6, 1 V4, 2 S/D, 3 IPv6D, 4 CHV4, 5 CHV6, 6 IP6PL
---   41  fields given: bit 0 IPv4, 1 IPv6, 2 delegation bits, 3 prefix length
---   42  delegation bits, a byte
---   43  prefix length, a byte
---   44  IPv4
---   48  IPv6
-use Prim.Native.Nat.{ℕ}
+-- The UE IP Address in a record image: the head, then the fields, each at its place.
+use Prim.Native.Nat.{ℕ, _+_}
 use mathlib.Core.Bool.{Bool}
 use mathlib.Core.List.{List, [], _∷_, _++_}
-use lib.ListN.{length, getD, replicate}
+use lib.ListN.{length, getD}
 use Rattle.answer.specs.declared.Written.{Written}
 use Rattle.answer.specs.Paper.{written}
-use Rattle.octets.specs.Octets.{bit, under, flagByte, field, ipv4Of, ipv6Of, put}
+use Rattle.octets.specs.Octets.{bit, ifSet, flagByte, field, ipv4Of, ipv6Of, put}
 use Rattle.ue_ip_address.specs.declared.UeIpAddress.{UeIpAddress}
 use Rattle.ue_ip_address.specs.declared.UeIpAddressRead.{UeIpAddressRead}
 use Rattle.ue_ip_address.specs.UeIpAddress.{meaning, wire}
-use Rattle.image.specs.Image.{low, filled, head}
+use Rattle.image.specs.Image.{headSize, bytesOrZeros, head}
+
+-- flags, a byte: bit 0 V6, 1 V4, 2 S/D, 3 IPv6D, 4 CHV4, 5 CHV6, 6 IP6PL
+abbrev pub flagsAt : ℕ
+flagsAt = headSize
+
+-- fields given, a byte: bit 0 IPv4, 1 IPv6, 2 delegation bits, 3 prefix length
+abbrev pub givenAt : ℕ
+givenAt = flagsAt + 1
+
+-- the delegation bits and the prefix length, a byte each
+abbrev pub bitsAt : ℕ
+bitsAt = givenAt + 1
+
+abbrev pub prefixAt : ℕ
+prefixAt = bitsAt + 1
+
+-- the addresses
+abbrev pub ipv4At : ℕ
+ipv4At = prefixAt + 1
+
+abbrev pub ipv6At : ℕ
+ipv6At = ipv4At + 4
+
+-- how long an image is
+abbrev pub size : ℕ
+size = ipv6At + 16
 
 -- the bytes of a record
 unfoldable pub recordImage : UeIpAddress → List ℕ
@@ -37,22 +57,18 @@ recordImage r =
     ∷ [])
     ∷ r .«ipv6_prefix_delegation_bits» .value
     ∷ r .«ipv6_prefix_length» .value
-    ∷ (filled 4 (r .«ipv4_address» .given) (r .«ipv4_address» .octets)
-    ++ filled 16 (r .«ipv6_address» .given) (r .«ipv6_address» .octets))
+    ∷ (bytesOrZeros 4 (r .«ipv4_address» .given) (r .«ipv4_address» .octets)
+    ++ bytesOrZeros 16 (r .«ipv6_address» .given) (r .«ipv6_address» .octets))
 
 -- the image of what a read answered
 abbrev pub imageOf : UeIpAddressRead → List ℕ
 imageOf r = head (r .answer) (r .used) ++ recordImage (r .«record»)
 
--- the image of a refusal: its number and values, then the used count and the empty record, which are zeros
-unfoldable pub refusal : (number v0 v1 v2 : ℕ) → List ℕ
-refusal number v0 v1 v2 = low 8 number ++ (low 8 v0 ++ (low 8 v1 ++ (low 8 v2 ++ replicate 32 0)))
-
 -- the record that stands in an image
 unfoldable pub recordAt : List ℕ → UeIpAddress
 recordAt m =
-    let flag : ℕ → Bool = λ k. bit k (getD m 40 0) in
-    let given : ℕ → Bool = λ k. bit k (getD m 41 0) in
+    let flag : ℕ → Bool = λ k. bit k (getD m flagsAt 0) in
+    let given : ℕ → Bool = λ k. bit k (getD m givenAt 0) in
     record {
       v4 = flag 1;
       v6 = flag 0;
@@ -61,18 +77,18 @@ recordAt m =
       «choose_ipv4» = flag 4;
       «choose_ipv6» = flag 5;
       «ipv6_prefix_length_present» = flag 6;
-      «ipv4_address» = ipv4Of (field m 44 (under (given 0) 4));
-      «ipv6_address» = ipv6Of (field m 48 (under (given 1) 16));
-      «ipv6_prefix_delegation_bits» = record { given = given 2; value = getD m 42 0 };
-      «ipv6_prefix_length» = record { given = given 3; value = getD m 43 0 };
+      «ipv4_address» = ipv4Of (field m ipv4At (ifSet (given 0) 4));
+      «ipv6_address» = ipv6Of (field m ipv6At (ifSet (given 1) 16));
+      «ipv6_prefix_delegation_bits» = record { given = given 2; value = getD m bitsAt 0 };
+      «ipv6_prefix_length» = record { given = given 3; value = getD m prefixAt 0 };
     }
 
 -- what writing that record answers, and the output that it leaves
-abbrev pub form : List ℕ → List ℕ
-form m = wire (meaning (recordAt m))
+abbrev pub writtenForm : List ℕ → List ℕ
+writtenForm m = wire (meaning (recordAt m))
 
 unfoldable pub writes : List ℕ → List ℕ → Written
-writes m out = written (length (form m)) (length out)
+writes m out = written (length (writtenForm m)) (length out)
 
 unfoldable pub stores : List ℕ → List ℕ → List ℕ
-stores m out = put out 0 (form m)
+stores m out = put out 0 (writtenForm m)

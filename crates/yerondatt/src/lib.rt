@@ -1,7 +1,7 @@
 // The functions that C and Rust link: each is the function that it calls, under a plain name.
 ghost use mathlib.Core.Path.{_≡_};
 ghost use mathlib.Core.Bool.{cond};
-ghost use Rattle.image.specs.Image.{told, laid, whole, numbered, changed, reported};
+ghost use Rattle.image.specs.Image.{readNumber, readImage, longEnough, writeNumber, writeOutput, writeReport};
 ghost use Rattle.strict.specs.Strict as strict;
 ghost use Rattle.ue_ip_address.specs.UeIpAddress as ue;
 ghost use Rattle.ue_ip_address_image.specs.UeIpAddressImage as ueImage;
@@ -37,8 +37,8 @@ pub extern "C" fn yerondatt_layout_version() -> u64
 
 #[no_mangle]
 pub extern "C" fn yerondatt_ue_ip_address_read(payload: &[u8], image: &mut [u8]) -> u64
-    ensures { λ r. ⌜ r ≡ told 64 (now (image .entry)) (ue.read (now (payload .entry)) .answer) ⌝ }
-    ensures { λ r. ⌜ now (image .exit) ≡ laid 64 (now (image .entry)) (ueImage.imageOf (ue.read (now (payload .entry)))) ⌝ }
+    ensures { λ r. ⌜ r ≡ readNumber ueImage.size (now (image .entry)) (ue.read (now (payload .entry)) .answer) ⌝ }
+    ensures { λ r. ⌜ now (image .exit) ≡ readImage ueImage.size (now (image .entry)) (ueImage.imageOf (ue.read (now (payload .entry)))) ⌝ }
 {
     ue_ip_address_image::read(payload, image)
 }
@@ -49,9 +49,9 @@ pub extern "C" fn yerondatt_ue_ip_address_write(
     out: &mut [u8],
     report: &mut [u8],
 ) -> u64
-    ensures { λ r. ⌜ r ≡ numbered (whole 64 (now (image .entry)) (now (report .entry))) (ueImage.writes (now (image .entry)) (now (out .entry))) ⌝ }
-    ensures { λ r. ⌜ now (out .exit) ≡ changed (whole 64 (now (image .entry)) (now (report .entry))) (ueImage.stores (now (image .entry)) (now (out .entry))) (now (out .entry)) ⌝ }
-    ensures { λ r. ⌜ now (report .exit) ≡ reported (whole 64 (now (image .entry)) (now (report .entry))) (now (report .entry)) (ueImage.writes (now (image .entry)) (now (out .entry))) ⌝ }
+    ensures { λ r. ⌜ r ≡ writeNumber (longEnough ueImage.size (now (image .entry)) (now (report .entry))) (ueImage.writes (now (image .entry)) (now (out .entry))) ⌝ }
+    ensures { λ r. ⌜ now (out .exit) ≡ writeOutput (longEnough ueImage.size (now (image .entry)) (now (report .entry))) (ueImage.stores (now (image .entry)) (now (out .entry))) (now (out .entry)) ⌝ }
+    ensures { λ r. ⌜ now (report .exit) ≡ writeReport (longEnough ueImage.size (now (image .entry)) (now (report .entry))) (now (report .entry)) (ueImage.writes (now (image .entry)) (now (out .entry))) ⌝ }
 {
     ue_ip_address_image::write(image, out, report)
 }
@@ -67,17 +67,17 @@ pub extern "C" fn yerondatt_ue_ip_address_strict(payload: &[u8]) -> u64
 
 #[no_mangle]
 pub extern "C" fn yerondatt_f_teid_read(payload: &[u8], image: &mut [u8]) -> u64
-    ensures { λ r. ⌜ r ≡ told 71 (now (image .entry)) (fteid.read (now (payload .entry)) .answer) ⌝ }
-    ensures { λ r. ⌜ now (image .exit) ≡ laid 71 (now (image .entry)) (fteidImage.imageOf (fteid.read (now (payload .entry)))) ⌝ }
+    ensures { λ r. ⌜ r ≡ readNumber fteidImage.size (now (image .entry)) (fteid.read (now (payload .entry)) .answer) ⌝ }
+    ensures { λ r. ⌜ now (image .exit) ≡ readImage fteidImage.size (now (image .entry)) (fteidImage.imageOf (fteid.read (now (payload .entry)))) ⌝ }
 {
     f_teid_image::read(payload, image)
 }
 
 #[no_mangle]
 pub extern "C" fn yerondatt_f_teid_write(image: &[u8], out: &mut [u8], report: &mut [u8]) -> u64
-    ensures { λ r. ⌜ r ≡ numbered (whole 71 (now (image .entry)) (now (report .entry))) (fteidImage.writes (now (image .entry)) (now (out .entry))) ⌝ }
-    ensures { λ r. ⌜ now (out .exit) ≡ changed (whole 71 (now (image .entry)) (now (report .entry))) (fteidImage.stores (now (image .entry)) (now (out .entry))) (now (out .entry)) ⌝ }
-    ensures { λ r. ⌜ now (report .exit) ≡ reported (whole 71 (now (image .entry)) (now (report .entry))) (now (report .entry)) (fteidImage.writes (now (image .entry)) (now (out .entry))) ⌝ }
+    ensures { λ r. ⌜ r ≡ writeNumber (longEnough fteidImage.size (now (image .entry)) (now (report .entry))) (fteidImage.writes (now (image .entry)) (now (out .entry))) ⌝ }
+    ensures { λ r. ⌜ now (out .exit) ≡ writeOutput (longEnough fteidImage.size (now (image .entry)) (now (report .entry))) (fteidImage.stores (now (image .entry)) (now (out .entry))) (now (out .entry)) ⌝ }
+    ensures { λ r. ⌜ now (report .exit) ≡ writeReport (longEnough fteidImage.size (now (image .entry)) (now (report .entry))) (now (report .entry)) (fteidImage.writes (now (image .entry)) (now (out .entry))) ⌝ }
 {
     f_teid_image::write(image, out, report)
 }
@@ -93,17 +93,17 @@ pub extern "C" fn yerondatt_f_teid_strict(payload: &[u8]) -> u64
 
 #[no_mangle]
 pub extern "C" fn yerondatt_fseid_read(payload: &[u8], image: &mut [u8]) -> u64
-    ensures { λ r. ⌜ r ≡ told 70 (now (image .entry)) (fseid.read (now (payload .entry)) .answer) ⌝ }
-    ensures { λ r. ⌜ now (image .exit) ≡ laid 70 (now (image .entry)) (fseidImage.imageOf (fseid.read (now (payload .entry)))) ⌝ }
+    ensures { λ r. ⌜ r ≡ readNumber fseidImage.size (now (image .entry)) (fseid.read (now (payload .entry)) .answer) ⌝ }
+    ensures { λ r. ⌜ now (image .exit) ≡ readImage fseidImage.size (now (image .entry)) (fseidImage.imageOf (fseid.read (now (payload .entry)))) ⌝ }
 {
     fseid_image::read(payload, image)
 }
 
 #[no_mangle]
 pub extern "C" fn yerondatt_fseid_write(image: &[u8], out: &mut [u8], report: &mut [u8]) -> u64
-    ensures { λ r. ⌜ r ≡ numbered (whole 70 (now (image .entry)) (now (report .entry))) (fseidImage.writes (now (image .entry)) (now (out .entry))) ⌝ }
-    ensures { λ r. ⌜ now (out .exit) ≡ changed (whole 70 (now (image .entry)) (now (report .entry))) (fseidImage.stores (now (image .entry)) (now (out .entry))) (now (out .entry)) ⌝ }
-    ensures { λ r. ⌜ now (report .exit) ≡ reported (whole 70 (now (image .entry)) (now (report .entry))) (now (report .entry)) (fseidImage.writes (now (image .entry)) (now (out .entry))) ⌝ }
+    ensures { λ r. ⌜ r ≡ writeNumber (longEnough fseidImage.size (now (image .entry)) (now (report .entry))) (fseidImage.writes (now (image .entry)) (now (out .entry))) ⌝ }
+    ensures { λ r. ⌜ now (out .exit) ≡ writeOutput (longEnough fseidImage.size (now (image .entry)) (now (report .entry))) (fseidImage.stores (now (image .entry)) (now (out .entry))) (now (out .entry)) ⌝ }
+    ensures { λ r. ⌜ now (report .exit) ≡ writeReport (longEnough fseidImage.size (now (image .entry)) (now (report .entry))) (now (report .entry)) (fseidImage.writes (now (image .entry)) (now (out .entry))) ⌝ }
 {
     fseid_image::write(image, out, report)
 }
@@ -119,8 +119,8 @@ pub extern "C" fn yerondatt_fseid_strict(payload: &[u8]) -> u64
 
 #[no_mangle]
 pub extern "C" fn yerondatt_node_id_read(payload: &[u8], image: &mut [u8]) -> u64
-    ensures { λ r. ⌜ r ≡ told 77 (now (image .entry)) (node.read (now (payload .entry)) .answer) ⌝ }
-    ensures { λ r. ⌜ now (image .exit) ≡ laid 77 (now (image .entry)) (nodeImage.imageOf (node.read (now (payload .entry)))) ⌝ }
+    ensures { λ r. ⌜ r ≡ readNumber nodeImage.size (now (image .entry)) (node.read (now (payload .entry)) .answer) ⌝ }
+    ensures { λ r. ⌜ now (image .exit) ≡ readImage nodeImage.size (now (image .entry)) (nodeImage.imageOf (node.read (now (payload .entry)))) ⌝ }
 {
     node_id_image::read(payload, image)
 }
@@ -132,9 +132,9 @@ pub extern "C" fn yerondatt_node_id_write(
     out: &mut [u8],
     report: &mut [u8],
 ) -> u64
-    ensures { λ r. ⌜ r ≡ numbered (whole 77 (now (image .entry)) (now (report .entry))) (nodeImage.writes (now (image .entry)) (now (texts .entry)) (now (out .entry))) ⌝ }
-    ensures { λ r. ⌜ now (out .exit) ≡ changed (whole 77 (now (image .entry)) (now (report .entry))) (nodeImage.stores (now (image .entry)) (now (texts .entry)) (now (out .entry))) (now (out .entry)) ⌝ }
-    ensures { λ r. ⌜ now (report .exit) ≡ reported (whole 77 (now (image .entry)) (now (report .entry))) (now (report .entry)) (nodeImage.writes (now (image .entry)) (now (texts .entry)) (now (out .entry))) ⌝ }
+    ensures { λ r. ⌜ r ≡ writeNumber (longEnough nodeImage.size (now (image .entry)) (now (report .entry))) (nodeImage.writes (now (image .entry)) (now (texts .entry)) (now (out .entry))) ⌝ }
+    ensures { λ r. ⌜ now (out .exit) ≡ writeOutput (longEnough nodeImage.size (now (image .entry)) (now (report .entry))) (nodeImage.stores (now (image .entry)) (now (texts .entry)) (now (out .entry))) (now (out .entry)) ⌝ }
+    ensures { λ r. ⌜ now (report .exit) ≡ writeReport (longEnough nodeImage.size (now (image .entry)) (now (report .entry))) (now (report .entry)) (nodeImage.writes (now (image .entry)) (now (texts .entry)) (now (out .entry))) ⌝ }
 {
     node_id_image::write(image, texts, out, report)
 }
@@ -150,8 +150,8 @@ pub extern "C" fn yerondatt_node_id_strict(payload: &[u8]) -> u64
 
 #[no_mangle]
 pub extern "C" fn yerondatt_outer_header_creation_read(payload: &[u8], image: &mut [u8]) -> u64
-    ensures { λ r. ⌜ r ≡ told 94 (now (image .entry)) (ohc.read (now (payload .entry)) .answer) ⌝ }
-    ensures { λ r. ⌜ now (image .exit) ≡ laid 94 (now (image .entry)) (ohcImage.imageOf (ohc.read (now (payload .entry)))) ⌝ }
+    ensures { λ r. ⌜ r ≡ readNumber ohcImage.size (now (image .entry)) (ohc.read (now (payload .entry)) .answer) ⌝ }
+    ensures { λ r. ⌜ now (image .exit) ≡ readImage ohcImage.size (now (image .entry)) (ohcImage.imageOf (ohc.read (now (payload .entry)))) ⌝ }
 {
     outer_header_creation_image::read(payload, image)
 }
@@ -162,9 +162,9 @@ pub extern "C" fn yerondatt_outer_header_creation_write(
     out: &mut [u8],
     report: &mut [u8],
 ) -> u64
-    ensures { λ r. ⌜ r ≡ numbered (whole 94 (now (image .entry)) (now (report .entry))) (ohcImage.writes (now (image .entry)) (now (out .entry))) ⌝ }
-    ensures { λ r. ⌜ now (out .exit) ≡ changed (whole 94 (now (image .entry)) (now (report .entry))) (ohcImage.stores (now (image .entry)) (now (out .entry))) (now (out .entry)) ⌝ }
-    ensures { λ r. ⌜ now (report .exit) ≡ reported (whole 94 (now (image .entry)) (now (report .entry))) (now (report .entry)) (ohcImage.writes (now (image .entry)) (now (out .entry))) ⌝ }
+    ensures { λ r. ⌜ r ≡ writeNumber (longEnough ohcImage.size (now (image .entry)) (now (report .entry))) (ohcImage.writes (now (image .entry)) (now (out .entry))) ⌝ }
+    ensures { λ r. ⌜ now (out .exit) ≡ writeOutput (longEnough ohcImage.size (now (image .entry)) (now (report .entry))) (ohcImage.stores (now (image .entry)) (now (out .entry))) (now (out .entry)) ⌝ }
+    ensures { λ r. ⌜ now (report .exit) ≡ writeReport (longEnough ohcImage.size (now (image .entry)) (now (report .entry))) (now (report .entry)) (ohcImage.writes (now (image .entry)) (now (out .entry))) ⌝ }
 {
     outer_header_creation_image::write(image, out, report)
 }
@@ -180,8 +180,8 @@ pub extern "C" fn yerondatt_outer_header_creation_strict(payload: &[u8]) -> u64
 
 #[no_mangle]
 pub extern "C" fn yerondatt_pfd_contents_read(payload: &[u8], image: &mut [u8]) -> u64
-    ensures { λ r. ⌜ r ≡ told 194 (now (image .entry)) (pfd.read (now (payload .entry)) .answer) ⌝ }
-    ensures { λ r. ⌜ now (image .exit) ≡ laid 194 (now (image .entry)) (pfdImage.imageOf (pfd.read (now (payload .entry)))) ⌝ }
+    ensures { λ r. ⌜ r ≡ readNumber pfdImage.size (now (image .entry)) (pfd.read (now (payload .entry)) .answer) ⌝ }
+    ensures { λ r. ⌜ now (image .exit) ≡ readImage pfdImage.size (now (image .entry)) (pfdImage.imageOf (pfd.read (now (payload .entry)))) ⌝ }
 {
     pfd_contents_image::read(payload, image)
 }
@@ -193,9 +193,9 @@ pub extern "C" fn yerondatt_pfd_contents_write(
     out: &mut [u8],
     report: &mut [u8],
 ) -> u64
-    ensures { λ r. ⌜ r ≡ numbered (whole 194 (now (image .entry)) (now (report .entry))) (pfdImage.writes (now (image .entry)) (now (texts .entry)) (now (out .entry))) ⌝ }
-    ensures { λ r. ⌜ now (out .exit) ≡ changed (whole 194 (now (image .entry)) (now (report .entry))) (pfdImage.stores (now (image .entry)) (now (texts .entry)) (now (out .entry))) (now (out .entry)) ⌝ }
-    ensures { λ r. ⌜ now (report .exit) ≡ reported (whole 194 (now (image .entry)) (now (report .entry))) (now (report .entry)) (pfdImage.writes (now (image .entry)) (now (texts .entry)) (now (out .entry))) ⌝ }
+    ensures { λ r. ⌜ r ≡ writeNumber (longEnough pfdImage.size (now (image .entry)) (now (report .entry))) (pfdImage.writes (now (image .entry)) (now (texts .entry)) (now (out .entry))) ⌝ }
+    ensures { λ r. ⌜ now (out .exit) ≡ writeOutput (longEnough pfdImage.size (now (image .entry)) (now (report .entry))) (pfdImage.stores (now (image .entry)) (now (texts .entry)) (now (out .entry))) (now (out .entry)) ⌝ }
+    ensures { λ r. ⌜ now (report .exit) ≡ writeReport (longEnough pfdImage.size (now (image .entry)) (now (report .entry))) (now (report .entry)) (pfdImage.writes (now (image .entry)) (now (texts .entry)) (now (out .entry))) ⌝ }
 {
     pfd_contents_image::write(image, texts, out, report)
 }

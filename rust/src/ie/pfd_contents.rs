@@ -315,7 +315,7 @@ impl PfdContentsBuilder {
         let refused = |why| Err(Refusal { kind: Kind::PfdContents, why });
         let length = built.slice_len();
         if length > LIMIT {
-            return refused(Why::TooLong { length });
+            return refused(Why::InputTooLong { length });
         }
         if built.flags == 0 {
             return refused(Why::Unbuilt { rule: 6 });

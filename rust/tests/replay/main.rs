@@ -1,6 +1,6 @@
 //! The recorded lists, line by line, through the crate: what it answers is compared byte by byte with the recorded answer,
-//! every field and every detail of it. The lists are those of `crates/case` and `crates/probe`; their answers come from
-//! the published Rust (`oracle/README.md`).
+//! every field and every detail of it. The lists are those of `crates/case`, `crates/probe` and `crates/compose`; their
+//! answers come from the published Rust (`oracle/README.md`).
 
 mod line;
 mod made;
@@ -36,6 +36,11 @@ fn case() {
 #[test]
 fn probe() {
     replay("crates/probe", &line::recorded("probe"), true);
+}
+
+#[test]
+fn compose() {
+    replay("crates/compose", &line::recorded("compose"), true);
 }
 
 #[test]
@@ -103,7 +108,7 @@ fn text(bytes: &[u8], recorded: &str) -> Outcome {
     let good = match record::read(b'N', &name) {
         Ok((_, used)) => used - 1,
         Err(Refusal { why: Why::NotUtf8 { place }, .. }) => place - 1,
-        Err(Refusal { why: Why::TooLong { .. }, .. }) => return Without("a text that is too long for a name"),
+        Err(Refusal { why: Why::InputTooLong { .. }, .. }) => return Without("a text that is too long for a name"),
         Err(refusal) => panic!("a name is refused: {refusal:?}"),
     };
     let (_, bad) = recorded.split_once(' ').expect("two numbers");
@@ -196,7 +201,9 @@ fn written_answer(record: &Record) -> String {
             holds_of_writing(record);
             format!("0 {} {} | {}", written.len(), hex(&written), record.fields(false))
         }
-        Err(refusal) if refusal.why == Why::TooWide => format!("{} | {}", refused(&refusal), record.fields(false)),
+        Err(refusal) if refusal.why == Why::OutputTooLong => {
+            format!("{} | {}", refused(&refusal), record.fields(false))
+        }
         Err(refusal) => refused(&refusal),
     }
 }

@@ -7,10 +7,10 @@ use Rattle.case.proofs.answer_input.Statement.{statement}
 use Rattle.case.proofs.answer_input.Tie as tie
 
 abbrev Inv-loop : tie.InvT-loop
-Inv-loop input₀ output₀ kept₀ turns₀ input output kept turns = (kept ≤ 8195) × (length input ≡ length input₀) × (length input₀ ≡ 65536) × (length output ≡ length output₀) × (length output₀ ≡ 65536)
+Inv-loop input₀ output₀ pending₀ turns₀ input output pending turns = (pending ≤ 8195) × (length input ≡ length input₀) × (length input₀ ≡ 65536) × (length output ≡ length output₀) × (length output₀ ≡ 65536)
 
 abbrev μ-loop : tie.MeasureT-loop
-μ-loop input₀ output₀ kept₀ turns₀ input output kept turns = turns
+μ-loop input₀ output₀ pending₀ turns₀ input output pending turns = turns
 
 loop-holds : tie.Need-loop-holds Inv-loop μ-loop
 loop-holds c = search needs

@@ -1,4 +1,4 @@
--- `case::answer_lines` is safe and ends. The invariant: the next end of a line isn't before the start, and the output is filled up to a place in it.
+-- `case::answer_lines` is safe and ends. The invariant: the next end of a line isn't before the start, and what is ready ends within the output.
 use Prim.Native.Nat.{_-_, _≤_}
 use native.Mathlib.Omega.{arith}
 use mathlib.Core.Path.{_≡_, sym}
@@ -9,10 +9,10 @@ use Rattle.case.proofs.answer_lines.Statement.{statement}
 use Rattle.case.proofs.answer_lines.Tie as tie
 
 abbrev Inv-loop : tie.InvT-loop
-Inv-loop input searched output₀ n start₀ done₀ at₀ output start done at = (n ≡ length input) × (start ≤ at) × (at ≤ n) × (done ≤ length output) × (length output ≡ length output₀) × (8218 ≤ length output₀)
+Inv-loop input searched output₀ n start₀ ready₀ at₀ output start ready at = (n ≡ length input) × (start ≤ at) × (at ≤ n) × (ready ≤ length output) × (length output ≡ length output₀) × (8218 ≤ length output₀)
 
 abbrev μ-loop : tie.MeasureT-loop
-μ-loop input searched output₀ n start₀ done₀ at₀ output start done at = n - start
+μ-loop input searched output₀ n start₀ ready₀ at₀ output start ready at = n - start
 
 find-requires : tie.Need-find-requires Inv-loop μ-loop
 find-requires c κs = search needs

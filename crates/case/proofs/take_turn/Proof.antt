@@ -44,8 +44,8 @@ same-length-4 c = search needs
 returns-3 : tie.Need-returns-3
 returns-3 c = search needs
 
-keep-requires : tie.Need-keep-requires
-keep-requires c κs =
+move-pending-requires : tie.Need-move-pending-requires
+move-pending-requires c κs =
     let r = c .before .before .before .before .before .before .before .before .before .before .before .before in
     let l = c .before .before .before .before .before in
     (omega (arith, l .answer-lines .ensures, answered r), omega (arith, r .read-behind .ensures .1, r .read-behind .kept .0))
@@ -74,7 +74,7 @@ take-turn-spec =
     same-length-3
     same-length-4
     returns-3
-    keep-requires
+    move-pending-requires
     same-length-5
     same-length-6
     returns-4)

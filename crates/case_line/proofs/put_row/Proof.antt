@@ -6,7 +6,7 @@ use mathlib.Core.List.{List, [], _∷_, _++_}
 use mathlib.Core.Option.{some}
 use lib.Dec.{eqb}
 use lib.ListN.{length, length-append}
-use Rattle.octets.specs.Octets.{under, put}
+use Rattle.octets.specs.Octets.{ifSet, put}
 use Rattle.hex.specs.Hex.{decimal}
 use Rattle.case_line.specs.Line.{row, hexOrDash}
 use Rattle.case_line.proofs.Laws.{two-puts, Puts, puts-none, puts-all, length-hexOrDash, length-shown, three-parts}
@@ -18,12 +18,12 @@ use Rattle.case_line.proofs.put_row.Tie as tie
 small : (d : List ℕ) (number used : ℕ) (bs : List ℕ) → length d / 2 < length bs → Puts (some (row number used bs)) d d 0
 small d number used bs h = puts-none _ d (omega (arith, length-shown number used bs, length-hexOrDash bs))
 
-short : (d : List ℕ) (number used l m u : ℕ) (bs : List ℕ) → l ≡ length (decimal number) → m ≡ length (decimal used) → u ≡ under (eqb (length bs) 0) 1
+short : (d : List ℕ) (number used l m u : ℕ) (bs : List ℕ) → l ≡ length (decimal number) → m ≡ length (decimal used) → u ≡ ifSet (eqb (length bs) 0) 1
     → length d < l + 1 + m + 1 + 2 * length bs + u + 1 → Puts (some (row number used bs)) d d 0
 short d number used l m u bs el em eu h = puts-none _ d (omega (arith, length-shown number used bs, length-hexOrDash bs))
 
 -- from what the calls on the way handed over
-rowed : (d d1 d2 d3 : List ℕ) (number used l m u : ℕ) (bs : List ℕ) → l ≡ length (decimal number) → m ≡ length (decimal used) → u ≡ under (eqb (length bs) 0) 1
+rowed : (d d1 d2 d3 : List ℕ) (number used l m u : ℕ) (bs : List ℕ) → l ≡ length (decimal number) → m ≡ length (decimal used) → u ≡ ifSet (eqb (length bs) 0) 1
     → l + 1 + m + 1 + 2 * length bs + u + 1 ≤ length d
     → d1 ≡ put d 0 (decimal number ++ (0x20 ∷ []))
     → d2 ≡ put d1 (l + 1) (decimal used ++ (0x20 ∷ []))
@@ -59,8 +59,8 @@ add-written-at c = search needs
 add-written-at-2 : tie.Need-add-written-at-2
 add-written-at-2 c = search needs
 
-under-requires : tie.Need-under-requires
-under-requires c κs = search needs
+if-set-requires : tie.Need-if-set-requires
+if-set-requires c κs = search needs
 
 mul-end : tie.Need-mul-end
 mul-end c = search needs
@@ -79,7 +79,7 @@ returns-2 c =
     let u = c .before in
     let m = u .before in
     let l = m .before in
-    short _ _ _ _ _ _ _ (l .decimal-len .ensures .0) (m .decimal-len2 .ensures .0) (u .under .ensures .0) (c .if2 .taken)
+    short _ _ _ _ _ _ _ (l .decimal-len .ensures .0) (m .decimal-len2 .ensures .0) (u .if-set .ensures .0) (c .if2 .taken)
 
 put-count-requires : tie.Need-put-count-requires
 put-count-requires c κs = search needs
@@ -94,7 +94,7 @@ put-written-requires c κs =
     let e = p1 .before .before in
     let u = e .before in
     let start = u .before .before .before .before .before .before in
-    omega (arith, length-hexOrDash (start .args .bs .now), p2 .put-count2 .kept .0, p1 .put-count .kept .0, e .if2 .left, u .under .ensures .0)
+    omega (arith, length-hexOrDash (start .args .bs .now), p2 .put-count2 .kept .0, p1 .put-count .kept .0, e .if2 .left, u .if-set .ensures .0)
 
 same-length : tie.Need-same-length
 same-length c = search needs
@@ -108,7 +108,7 @@ returns-3 c =
     let u = e .before in
     let m = u .before in
     let l = m .before in
-    rowed _ _ _ _ _ _ _ _ _ _ (l .decimal-len .ensures .0) (m .decimal-len2 .ensures .0) (u .under .ensures .0) (e .if2 .left) (p1 .put-count .ensures) (p2 .put-count2 .ensures) (p3 .put-written .ensures)
+    rowed _ _ _ _ _ _ _ _ _ _ (l .decimal-len .ensures .0) (m .decimal-len2 .ensures .0) (u .if-set .ensures .0) (e .if2 .left) (p1 .put-count .ensures) (p2 .put-count2 .ensures) (p3 .put-written .ensures)
 
 pub put-row-spec : {M : Type 1} → statement M
 put-row-spec =
@@ -120,7 +120,7 @@ put-row-spec =
     decimal-len-requires-2
     add-written-at
     add-written-at-2
-    under-requires
+    if-set-requires
     mul-end
     add-end
     add-end-2

@@ -7,11 +7,11 @@ use Rattle.case_line.proofs.row_of.Tie as tie
 number-requires : tie.Need-number-requires
 number-requires c κs = search needs
 
-under-requires : tie.Need-under-requires
-under-requires c κs = search needs
+if-set-requires : tie.Need-if-set-requires
+if-set-requires c κs = search needs
 
 returns : tie.Need-returns
-returns c = rw (c .under .ensures .0, c .before .number .ensures)
+returns c = rw (c .if-set .ensures .0, c .before .number .ensures)
 
 pub row-of-spec : {M : Type 1} → statement M
-row-of-spec = tie.close (tie.spec number-requires under-requires returns)
+row-of-spec = tie.close (tie.spec number-requires if-set-requires returns)

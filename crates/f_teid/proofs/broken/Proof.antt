@@ -36,38 +36,17 @@ module _ (b : FteidBuilder) (t1 : Bool) (e1 : t1 ≡ b .«ipv4_address» .given 
           unfolding broken
           none q5 = rw (← e1, q1, ← e2, q2, ← ea, ← ec, ← e3, q3, ← e4, q4, ← e5, q5)
 
-either-requires : tie.Need-either-requires
-either-requires c κs = search needs
-
-either-requires-2 : tie.Need-either-requires-2
-either-requires-2 c κs = search needs
-
-both-requires : tie.Need-both-requires
-both-requires c κs = search needs
-
 returns : tie.Need-returns
 returns c = search rule1
-
-both-requires-2 : tie.Need-both-requires-2
-both-requires-2 c κs = search needs
 
 returns-2 : tie.Need-returns-2
 returns-2 c = search rule2
 
-either-requires-3 : tie.Need-either-requires-3
-either-requires-3 c κs = search needs
-
 returns-3 : tie.Need-returns-3
 returns-3 c = search rule3
 
-both-requires-3 : tie.Need-both-requires-3
-both-requires-3 c κs = search needs
-
 returns-4 : tie.Need-returns-4
 returns-4 c = search rule4
-
-either-requires-4 : tie.Need-either-requires-4
-either-requires-4 c κs = search needs
 
 returns-5 : tie.Need-returns-5
 returns-5 c = search rule5
@@ -79,16 +58,5 @@ pub broken-spec : {M : Type 1} → statement M
 broken-spec =
     tie.close
     (tie.spec
-    either-requires
-    either-requires-2
-    both-requires
-    returns
-    both-requires-2
-    returns-2
-    either-requires-3
-    returns-3
-    both-requires-3
-    returns-4
-    either-requires-4
-    returns-5
-    returns-6)
+    (λ c κs. search needs) (λ c κs. search needs) (λ c κs. search needs) returns (λ c κs. search needs) returns-2
+    (λ c κs. search needs) returns-3 (λ c κs. search needs) returns-4 (λ c κs. search needs) returns-5 returns-6)

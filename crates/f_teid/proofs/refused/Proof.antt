@@ -4,12 +4,12 @@ use Rattle.f_teid.specs.Fteid.{refused}
 use Rattle.f_teid.proofs.refused.Statement.{statement}
 use Rattle.f_teid.proofs.refused.Tie as tie
 
-empty-requires : tie.Need-empty-requires
-empty-requires c κs = search needs
-
 returns : tie.Need-returns
 unfolding refused
 returns c = rw (c .empty .ensures)
 
 pub refused-spec : {M : Type 1} → statement M
-refused-spec = tie.close (tie.spec empty-requires returns)
+refused-spec =
+    tie.close
+    (tie.spec
+    (λ c κs. search needs) returns)

@@ -6,7 +6,7 @@ use mathlib.Core.Bool.{true, false}
 use mathlib.Core.List.{List, [], _∷_}
 use lib.ListN.{length}
 use borrow.Author.Needs.{needs}
-use Rattle.octets.specs.Octets.{under, flagByte, numberIf, presence, put}
+use Rattle.octets.specs.Octets.{ifSet, flagByte, numberIf, presence, put}
 use Rattle.octets.proofs.Laws.{flags-padded, number-length, Puts, ends, then}
 use Rattle.kind.proofs.Cases.{no-room, all-put}
 use Rattle.f_teid.specs.declared.Fteid.{Fteid}
@@ -14,7 +14,7 @@ use Rattle.f_teid.specs.Fteid.{meaning, tail, wire}
 use Rattle.f_teid.proofs.write_chosen.Statement.{statement}
 use Rattle.f_teid.proofs.write_chosen.Tie as tie
 
-module _ (r : Fteid) (u : ℕ) (ch : r .ch ≡ true) (e : u ≡ under (r .chid) 1) where
+module _ (r : Fteid) (u : ℕ) (ch : r .ch ≡ true) (e : u ≡ ifSet (r .chid) 1) where
   -- the written form, how long it is, and that it is put piece by piece
   formed : wire (meaning r) ≡ flagByte (r .v4 ∷ r .v6 ∷ true ∷ r .chid ∷ []) ∷ numberIf 1 (presence (r .chid) (r .«choose_id»))
   unfolding wire tail meaning
@@ -29,31 +29,10 @@ module _ (r : Fteid) (u : ℕ) (ch : r .ch ≡ true) (e : u ≡ under (r .chid) 
       → Puts d 0 (wire (meaning r)) d2
   row f d d1 d2 g q1 q2 = rw (formed, ← flags-padded (r .v4 ∷ r .v6 ∷ true ∷ r .chid ∷ []) 4, ← g) (then (f ∷ []) 1 q1 refl (ends q2))
 
-under-requires : tie.Need-under-requires
-under-requires c κs = search needs
-
-add-end : tie.Need-add-end
-add-end c = search needs
-
 returns : tie.Need-returns
 returns c =
     let u = c .before in
-    no-room _ _ _ (long _ _ (u .before .before .pre) (u .under .ensures .0)) (c .if1 .taken)
-
-flag-byte-requires : tie.Need-flag-byte-requires
-flag-byte-requires c κs = search needs
-
-put-byte-requires : tie.Need-put-byte-requires
-put-byte-requires c κs = search needs
-
-cast-put-number-given : tie.Need-cast-put-number-given
-cast-put-number-given c = search needs
-
-put-number-given-requires : tie.Need-put-number-given-requires
-put-number-given-requires c κs = search needs
-
-same-length : tie.Need-same-length
-same-length c = search needs
+    no-room _ _ _ (long _ _ (u .before .before .pre) (u .if-set .ensures .0)) (c .if1 .taken)
 
 returns-2 : tie.Need-returns-2
 returns-2 c =
@@ -64,7 +43,7 @@ returns-2 c =
     let start = u .before .before in
     let r = start .args .r in
     let ch = start .pre in
-    let e = u .under .ensures .0 in
+    let e = u .if-set .ensures .0 in
     all-put _ _ _ (long r _ ch e) _ (fl .before .if1 .left)
     (row r _ ch e _ _ _ _ (fl .flag-byte .ensures) (pb .put-byte .ensures) (pn .put-number-given .ensures))
 
@@ -72,12 +51,5 @@ pub write-chosen-spec : {M : Type 1} → statement M
 write-chosen-spec =
     tie.close
     (tie.spec
-    under-requires
-    add-end
-    returns
-    flag-byte-requires
-    put-byte-requires
-    cast-put-number-given
-    put-number-given-requires
-    same-length
-    returns-2)
+    (λ c κs. search needs) (λ c. search needs) returns (λ c κs. search needs) (λ c κs. search needs)
+    (λ c. search needs) (λ c κs. search needs) (λ c. search needs) returns-2)

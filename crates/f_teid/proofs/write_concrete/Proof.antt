@@ -5,10 +5,10 @@ use mathlib.Core.Bool.{false}
 use mathlib.Core.List.{List, [], _∷_}
 use lib.ListN.{length}
 use borrow.Author.Needs.{needs}
-use Rattle.octets.specs.Octets.{under, flagByte, bytesOf, bytesIf, ipv4Meaning, ipv6Meaning, put}
+use Rattle.octets.specs.Octets.{ifSet, flagByte, bigEndianBytes, bytesIf, ipv4Meaning, ipv6Meaning, put}
 use Rattle.octets.proofs.Laws.{flags-padded, Puts}
 use Rattle.kind.proofs.Cases.{no-room, all-put}
-use Rattle.kind.proofs.Endpoint.{form, form-length, form-row}
+use Rattle.kind.proofs.Endpoint.{endpointWire, form-length, form-row}
 use Rattle.f_teid.specs.declared.Fteid.{Fteid}
 use Rattle.f_teid.specs.Fteid.{meaning, tail, wire}
 use Rattle.f_teid.proofs.write_concrete.Statement.{statement}
@@ -18,9 +18,9 @@ use Rattle.f_teid.proofs.write_concrete.Tie as tie
 abbrev first : Fteid → ℕ
 first r = flagByte (r .v4 ∷ r .v6 ∷ false ∷ false ∷ [])
 
-module _ (r : Fteid) (u4 u6 : ℕ) (ch : r .ch ≡ false) (e4 : u4 ≡ under (r .«ipv4_address» .given) 4) (e6 : u6 ≡ under (r .«ipv6_address» .given) 16) (l4 : length (r .«ipv4_address» .octets) ≡ 4) (l6 : length (r .«ipv6_address» .octets) ≡ 16) where
+module _ (r : Fteid) (u4 u6 : ℕ) (ch : r .ch ≡ false) (e4 : u4 ≡ ifSet (r .«ipv4_address» .given) 4) (e6 : u6 ≡ ifSet (r .«ipv6_address» .given) 16) (l4 : length (r .«ipv4_address» .octets) ≡ 4) (l6 : length (r .«ipv6_address» .octets) ≡ 16) where
   -- the written form, how long it is, and that it is put piece by piece
-  formed : wire (meaning r) ≡ form (first r) 4 (r .teid .0) (r .«ipv4_address») (r .«ipv6_address»)
+  formed : wire (meaning r) ≡ endpointWire (first r) 4 (r .teid .0) (r .«ipv4_address») (r .«ipv6_address»)
   unfolding wire tail meaning
   formed = rw ch
 
@@ -29,7 +29,7 @@ module _ (r : Fteid) (u4 u6 : ℕ) (ch : r .ch ≡ false) (e4 : u4 ≡ under (r 
 
   row : (f : ℕ) (d d1 d2 d3 d4 : List ℕ) → f ≡ flagByte (r .v4 ∷ r .v6 ∷ false ∷ false ∷ false ∷ false ∷ false ∷ false ∷ [])
       → d1 ≡ put d 0 (f ∷ [])
-      → d2 ≡ put d1 1 (bytesOf 4 (r .teid .0))
+      → d2 ≡ put d1 1 (bigEndianBytes 4 (r .teid .0))
       → d3 ≡ put d2 5 (bytesIf (ipv4Meaning (r .«ipv4_address»)))
       → d4 ≡ put d3 (5 + u4) (bytesIf (ipv6Meaning (r .«ipv6_address»)))
       → Puts d 0 (wire (meaning r)) d4
@@ -41,46 +41,13 @@ module _ (r : Fteid) (u4 u6 : ℕ) (ch : r .ch ≡ false) (e4 : u4 ≡ under (r 
 lengths : (c : tie.Start) → (length (c .args .r .«ipv4_address» .octets) ≡ 4) × (length (c .args .r .«ipv6_address» .octets) ≡ 16)
 lengths c = (search needs, search needs)
 
-under-requires : tie.Need-under-requires
-under-requires c κs = search needs
-
-add-end4 : tie.Need-add-end4
-add-end4 c = search needs
-
-under-requires-2 : tie.Need-under-requires-2
-under-requires-2 c κs = search needs
-
-add-end6 : tie.Need-add-end6
-add-end6 c = search needs
-
 returns : tie.Need-returns
 returns c =
     let u6 = c .before in
     let u4 = u6 .before in
     let start = u4 .before .before .before .before in
     let (l4, l6) = lengths start in
-    no-room _ _ _ (long _ _ _ (start .pre) (u4 .under .ensures .0) (u6 .under2 .ensures .0) l4 l6) (c .if1 .taken)
-
-flag-byte-requires : tie.Need-flag-byte-requires
-flag-byte-requires c κs = search needs
-
-put-byte-requires : tie.Need-put-byte-requires
-put-byte-requires c κs = search needs
-
-cast-put-number : tie.Need-cast-put-number
-cast-put-number c = search needs
-
-put-number-requires : tie.Need-put-number-requires
-put-number-requires c κs = search needs
-
-put-ipv4-requires : tie.Need-put-ipv4-requires
-put-ipv4-requires c κs = search needs
-
-put-ipv6-requires : tie.Need-put-ipv6-requires
-put-ipv6-requires c κs = search needs
-
-same-length : tie.Need-same-length
-same-length c = search needs
+    no-room _ _ _ (long _ _ _ (start .pre) (u4 .if-set .ensures .0) (u6 .if-set2 .ensures .0) l4 l6) (c .if1 .taken)
 
 returns-2 : tie.Need-returns-2
 returns-2 c =
@@ -94,8 +61,8 @@ returns-2 c =
     let start = u4 .before .before .before .before in
     let r = start .args .r in
     let ch = start .pre in
-    let e4 = u4 .under .ensures .0 in
-    let e6 = u6 .under2 .ensures .0 in
+    let e4 = u4 .if-set .ensures .0 in
+    let e6 = u6 .if-set2 .ensures .0 in
     let (l4, l6) = lengths start in
     all-put _ _ _ (long r _ _ ch e4 e6 l4 l6) _ (fl .before .if1 .left)
     (row r _ _ ch e4 e6 l4 l6 _ _ _ _ _ _ (fl .flag-byte .ensures) (pb .put-byte .ensures) (pn .put-number .ensures) (p4 .put-ipv4 .ensures) (p6 .put-ipv6 .ensures))
@@ -104,16 +71,6 @@ pub write-concrete-spec : {M : Type 1} → statement M
 write-concrete-spec =
     tie.close
     (tie.spec
-    under-requires
-    add-end4
-    under-requires-2
-    add-end6
-    returns
-    flag-byte-requires
-    put-byte-requires
-    cast-put-number
-    put-number-requires
-    put-ipv4-requires
-    put-ipv6-requires
-    same-length
-    returns-2)
+    (λ c κs. search needs) (λ c. search needs) (λ c κs. search needs) (λ c. search needs) returns
+    (λ c κs. search needs) (λ c κs. search needs) (λ c. search needs) (λ c κs. search needs) (λ c κs. search needs)
+    (λ c κs. search needs) (λ c. search needs) returns-2)

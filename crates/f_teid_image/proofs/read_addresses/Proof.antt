@@ -1,99 +1,31 @@
 -- `f_teid_image::read_addresses` meets its contract: by V4 and V6.
 use mathlib.Core.Path.{sym, _∙_}
-use Rattle.f_teid_image.proofs.Reading.{said0, laid0}
 use borrow.Author.Needs.{needs}
+use Rattle.f_teid.proofs.Returns.{no-teid}
+use Rattle.f_teid_image.proofs.Reading.{refusal}
 use Rattle.f_teid_image.proofs.read_addresses.Statement.{statement}
 use Rattle.f_teid_image.proofs.read_addresses.Tie as tie
 
-put-short-requires : tie.Need-put-short-requires
-put-short-requires c κs = search needs
-
-same-length : tie.Need-same-length
-same-length c = search needs
-
 returns : tie.Need-returns
-returns c = (search said0, search laid0)
-
-shared-slice-read-flags : tie.Need-shared-slice-read-flags
-shared-slice-read-flags c = search needs
-
-bit-requires : tie.Need-bit-requires
-bit-requires c κs = search needs
-
-bit-requires-2 : tie.Need-bit-requires-2
-bit-requires-2 c κs = search needs
+returns c = refusal _ _ _ (c .before .before .put-short .ensures) (search no-teid)
 
 read-concrete-requires : tie.Need-read-concrete-requires
-read-concrete-requires c κs =
-    let v6 = c .before in
-    let v4 = v6 .before in
-    let b = v4 .before in
-    (search needs, (search needs, (search needs, (search needs, (search needs, (sym (v4 .if2 .taken) ∙ b .bit2 .ensures, sym (v6 .if3 .taken) ∙ b .before .bit .ensures))))))
-
-same-length-2 : tie.Need-same-length-2
-same-length-2 c = search needs
-
-returns-2 : tie.Need-returns-2
-returns-2 c = search needs
+read-concrete-requires c κs = (search needs, (search needs, (search needs, (search needs, (search needs, (sym (c .before .before .if2 .taken) ∙ c .before .before .before .bit2 .ensures, sym (c .before .if3 .taken) ∙ c .before .before .before .before .bit .ensures))))))
 
 read-concrete-requires-2 : tie.Need-read-concrete-requires-2
-read-concrete-requires-2 c κs =
-    let v6 = c .before in
-    let v4 = v6 .before in
-    let b = v4 .before in
-    (search needs, (search needs, (search needs, (search needs, (search needs, (sym (v4 .if2 .taken) ∙ b .bit2 .ensures, sym (v6 .if3 .left) ∙ b .before .bit .ensures))))))
-
-same-length-3 : tie.Need-same-length-3
-same-length-3 c = search needs
-
-returns-3 : tie.Need-returns-3
-returns-3 c = search needs
+read-concrete-requires-2 c κs = (search needs, (search needs, (search needs, (search needs, (search needs, (sym (c .before .before .if2 .taken) ∙ c .before .before .before .bit2 .ensures, sym (c .before .if3 .left) ∙ c .before .before .before .before .bit .ensures))))))
 
 read-concrete-requires-3 : tie.Need-read-concrete-requires-3
-read-concrete-requires-3 c κs =
-    let v6 = c .before in
-    let v4 = v6 .before in
-    let b = v4 .before in
-    (search needs, (search needs, (search needs, (search needs, (search needs, (sym (v4 .if2 .left) ∙ b .bit2 .ensures, sym (v6 .if4 .taken) ∙ b .before .bit .ensures))))))
-
-same-length-4 : tie.Need-same-length-4
-same-length-4 c = search needs
-
-returns-4 : tie.Need-returns-4
-returns-4 c = search needs
+read-concrete-requires-3 c κs = (search needs, (search needs, (search needs, (search needs, (search needs, (sym (c .before .before .if2 .left) ∙ c .before .before .before .bit2 .ensures, sym (c .before .if4 .taken) ∙ c .before .before .before .before .bit .ensures))))))
 
 read-concrete-requires-4 : tie.Need-read-concrete-requires-4
-read-concrete-requires-4 c κs =
-    let v6 = c .before in
-    let v4 = v6 .before in
-    let b = v4 .before in
-    (search needs, (search needs, (search needs, (search needs, (search needs, (sym (v4 .if2 .left) ∙ b .bit2 .ensures, sym (v6 .if4 .left) ∙ b .before .bit .ensures))))))
-
-same-length-5 : tie.Need-same-length-5
-same-length-5 c = search needs
-
-returns-5 : tie.Need-returns-5
-returns-5 c = search needs
+read-concrete-requires-4 c κs = (search needs, (search needs, (search needs, (search needs, (search needs, (sym (c .before .before .if2 .left) ∙ c .before .before .before .bit2 .ensures, sym (c .before .if4 .left) ∙ c .before .before .before .before .bit .ensures))))))
 
 pub read-addresses-spec : {M : Type 1} → statement M
 read-addresses-spec =
     tie.close
     (tie.spec
-    put-short-requires
-    same-length
-    returns
-    shared-slice-read-flags
-    bit-requires
-    bit-requires-2
-    read-concrete-requires
-    same-length-2
-    returns-2
-    read-concrete-requires-2
-    same-length-3
-    returns-3
-    read-concrete-requires-3
-    same-length-4
-    returns-4
-    read-concrete-requires-4
-    same-length-5
-    returns-5)
+    (λ c κs. search needs) (λ c. search needs) returns (λ c. search needs) (λ c κs. search needs)
+    (λ c κs. search needs) read-concrete-requires (λ c. search needs) (λ c. search needs) read-concrete-requires-2
+    (λ c. search needs) (λ c. search needs) read-concrete-requires-3 (λ c. search needs) (λ c. search needs)
+    read-concrete-requires-4 (λ c. search needs) (λ c. search needs))

@@ -8,69 +8,37 @@ use Rattle.answer.specs.declared.Values.{Values}
 use Rattle.answer.specs.Paper.{numberOf, valuesOf}
 use Rattle.octets.specs.Octets.{put}
 use Rattle.octets.proofs.Laws.{put-not}
-use Rattle.image.specs.Image.{low, head}
-use Rattle.image.proofs.Laws.{length-low, length-head, before}
+use Rattle.image.specs.Image.{littleEndianBytes, head}
+use Rattle.image.proofs.Laws.{length-littleEndianBytes, length-head, before}
 use borrow.Author.Needs.{needs}
 use Rattle.image.proofs.put_head.Statement.{statement}
 use Rattle.image.proofs.put_head.Tie as tie
-use Rattle.image.proofs.put_head.Reads as reads
-use Rattle.image.proofs.put_head.Lts as lts
-use Rattle.answer.proofs.Answer.number.Reads as number-reads
-use Rattle.answer.proofs.Answer.values.Reads as values-reads
-use Rattle.image.proofs.put_u64.Reads as put-u64-reads
 
-kept : (d : List ℕ) (a : Answer) (n : ℕ) → length d < 40 → d ≡ put d 0 (head a n)
-kept d a n h = sym (put-not d 0 (head a n) (omega (arith, length-head a n)))
+read-back : (d : List ℕ) (a : Answer) (n : ℕ) → length d < 40 → d ≡ put d 0 (head a n)
+read-back d a n h = sym (put-not d 0 (head a n) (omega (arith, length-head a n)))
 
 stored : (d d1 d2 d3 d4 d5 : List ℕ) (a : Answer) (n k : ℕ) (v : Values) → 40 ≤ length d → v ≡ valuesOf a → k ≡ numberOf a
-    → d1 ≡ put d 32 (low 8 n)
-    → d2 ≡ put d1 24 (low 8 (v .2))
-    → d3 ≡ put d2 16 (low 8 (v .1))
-    → d4 ≡ put d3 8 (low 8 (v .0))
-    → d5 ≡ put d4 0 (low 8 k)
+    → d1 ≡ put d 32 (littleEndianBytes 8 n)
+    → d2 ≡ put d1 24 (littleEndianBytes 8 (v .2))
+    → d3 ≡ put d2 16 (littleEndianBytes 8 (v .1))
+    → d4 ≡ put d3 8 (littleEndianBytes 8 (v .0))
+    → d5 ≡ put d4 0 (littleEndianBytes 8 k)
     → d5 ≡ put d 0 (head a n)
 unfolding head
 stored d d1 d2 d3 d4 d5 a n k v h e f q1 q2 q3 q4 q5 =
-    let l0 = length-low 8 k in
-    let l1 = length-low 8 (v .0) in
-    let l2 = length-low 8 (v .1) in
-    let l3 = length-low 8 (v .2) in
-    let l4 = length-low 8 n in
+    let l0 = length-littleEndianBytes 8 k in
+    let l1 = length-littleEndianBytes 8 (v .0) in
+    let l2 = length-littleEndianBytes 8 (v .1) in
+    let l3 = length-littleEndianBytes 8 (v .2) in
+    let l4 = length-littleEndianBytes 8 n in
     let r2 = before d d1 d2 24 32 _ _ q1 q2 (omega arith) (omega arith) in
-    let r3 = before d d2 d3 16 24 _ _ r2 q3 (omega arith) (omega (arith, length-append (low 8 (v .2)) (low 8 n))) in
-    let r4 = before d d3 d4 8 16 _ _ r3 q4 (omega arith) (omega (arith, length-append (low 8 (v .1)) (low 8 (v .2) ++ low 8 n), length-append (low 8 (v .2)) (low 8 n))) in
-    let r5 = before d d4 d5 0 8 _ _ r4 q5 (omega arith) (omega (arith, length-append (low 8 (v .0)) (low 8 (v .1) ++ (low 8 (v .2) ++ low 8 n)), length-append (low 8 (v .1)) (low 8 (v .2) ++ low 8 n), length-append (low 8 (v .2)) (low 8 n))) in
+    let r3 = before d d2 d3 16 24 _ _ r2 q3 (omega arith) (omega (arith, length-append (littleEndianBytes 8 (v .2)) (littleEndianBytes 8 n))) in
+    let r4 = before d d3 d4 8 16 _ _ r3 q4 (omega arith) (omega (arith, length-append (littleEndianBytes 8 (v .1)) (littleEndianBytes 8 (v .2) ++ littleEndianBytes 8 n), length-append (littleEndianBytes 8 (v .2)) (littleEndianBytes 8 n))) in
+    let r5 = before d d4 d5 0 8 _ _ r4 q5 (omega arith) (omega (arith, length-append (littleEndianBytes 8 (v .0)) (littleEndianBytes 8 (v .1) ++ (littleEndianBytes 8 (v .2) ++ littleEndianBytes 8 n)), length-append (littleEndianBytes 8 (v .1)) (littleEndianBytes 8 (v .2) ++ littleEndianBytes 8 n), length-append (littleEndianBytes 8 (v .2)) (littleEndianBytes 8 n))) in
     rw (e, f) at r5
 
 returns : tie.Need-returns
-returns c = search kept
-
-values-requires : tie.Need-values-requires
-values-requires c κs = search needs
-
-put-u64-requires : tie.Need-put-u64-requires
-put-u64-requires c κs = search needs
-
-put-u64-requires-2 : tie.Need-put-u64-requires-2
-put-u64-requires-2 c κs = search needs
-
-put-u64-requires-3 : tie.Need-put-u64-requires-3
-put-u64-requires-3 c κs = search needs
-
-put-u64-requires-4 : tie.Need-put-u64-requires-4
-put-u64-requires-4 c κs = search needs
-
-number-requires : tie.Need-number-requires
-number-requires c κs = search needs
-
-cast-put-u64 : tie.Need-cast-put-u64
-cast-put-u64 c = search needs
-
-put-u64-requires-5 : tie.Need-put-u64-requires-5
-put-u64-requires-5 c κs = search needs
-
-same-length : tie.Need-same-length
-same-length c = search needs
+returns c = search read-back
 
 returns-2 : tie.Need-returns-2
 returns-2 c =
@@ -86,14 +54,6 @@ pub put-head-spec : {M : Type 1} → statement M
 put-head-spec =
     tie.close
     (tie.spec
-    returns
-    values-requires
-    put-u64-requires
-    put-u64-requires-2
-    put-u64-requires-3
-    put-u64-requires-4
-    number-requires
-    cast-put-u64
-    put-u64-requires-5
-    same-length
+    returns (λ c κs. search needs) (λ c κs. search needs) (λ c κs. search needs) (λ c κs. search needs)
+    (λ c κs. search needs) (λ c κs. search needs) (λ c. search needs) (λ c κs. search needs) (λ c. search needs)
     returns-2)

@@ -4,12 +4,12 @@ use borrow.Author.Needs.{needs}
 use Rattle.node_id.proofs.refused.Statement.{statement}
 use Rattle.node_id.proofs.refused.Tie as tie
 
-new-fqdn-requires : tie.Need-new-fqdn-requires
-new-fqdn-requires c κs = search needs
-
 returns : tie.Need-returns
 unfolding refused
 returns c = rw (c .new-fqdn .ensures)
 
 pub refused-spec : {M : Type 1} → statement M
-refused-spec = tie.close (tie.spec new-fqdn-requires returns)
+refused-spec =
+    tie.close
+    (tie.spec
+    (λ c κs. search needs) returns)

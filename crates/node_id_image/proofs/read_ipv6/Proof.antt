@@ -1,54 +1,20 @@
 -- `node_id_image::read_ipv6` meets its contract: by whether the address is there.
-use Rattle.node_id_image.proofs.Reading.{said-short6, laid-short6, said6, laid6}
 use borrow.Author.Needs.{needs}
+use Rattle.node_id.specs.NodeId.{readIpv6}
+use Rattle.node_id.proofs.Returns.{cut-address, whole-ipv6}
+use Rattle.node_id_image.proofs.Reading.{refusal, accepted}
 use Rattle.node_id_image.proofs.read_ipv6.Statement.{statement}
 use Rattle.node_id_image.proofs.read_ipv6.Tie as tie
 
-put-short-requires : tie.Need-put-short-requires
-put-short-requires c κs = search needs
-
-same-length : tie.Need-same-length
-same-length c = search needs
-
 returns : tie.Need-returns
-returns c = (search said-short6, search laid-short6)
-
-sub-of : tie.Need-sub-of
-sub-of c = search needs
-
-part-of-start : tie.Need-part-of-start
-part-of-start c = search needs
-
-part-of-end : tie.Need-part-of-end
-part-of-end c = search needs
-
-of-requires : tie.Need-of-requires
-of-requires c κs = search needs
-
-new-ipv6-requires : tie.Need-new-ipv6-requires
-new-ipv6-requires c κs = search needs
-
-put-image-requires : tie.Need-put-image-requires
-put-image-requires c κs = search needs
-
-same-length-2 : tie.Need-same-length-2
-same-length-2 c = search needs
+returns c = refusal readIpv6 _ _ _ (c .before .before .put-refused .ensures) (search cut-address)
 
 returns-2 : tie.Need-returns-2
-returns-2 c = (search said6, search laid6)
+returns-2 c = accepted readIpv6 _ _ (c .before .before .put-image .ensures) (search whole-ipv6)
 
 pub read-ipv6-spec : {M : Type 1} → statement M
 read-ipv6-spec =
     tie.close
     (tie.spec
-    put-short-requires
-    same-length
-    returns
-    sub-of
-    part-of-start
-    part-of-end
-    of-requires
-    new-ipv6-requires
-    put-image-requires
-    same-length-2
-    returns-2)
+    (λ c κs. search needs) (λ c. search needs) returns (λ c. search needs) (λ c. search needs) (λ c. search needs)
+    (λ c κs. search needs) (λ c κs. search needs) (λ c κs. search needs) (λ c. search needs) returns-2)

@@ -12,14 +12,11 @@ other zero h g = absurd (h refl)
 other (suc zero) h g = absurd (g refl)
 other (suc (suc b)) h g = refl
 
-returns : tie.Need-returns
-returns c = search needs
-
-returns-2 : tie.Need-returns-2
-returns-2 c = search needs
-
 returns-3 : tie.Need-returns-3
 returns-3 c = search other
 
 pub type-of-spec : {M : Type 1} → statement M
-type-of-spec = tie.close (tie.spec returns returns-2 returns-3)
+type-of-spec =
+    tie.close
+    (tie.spec
+    (λ c. search needs) (λ c. search needs) returns-3)

@@ -6,69 +6,32 @@ use lib.ListN.{length}
 use Rattle.answer.specs.declared.Written.{Written}
 use Rattle.kind.specs.Write.{answered, stored}
 use Rattle.node_id.specs.declared.NodeId.{NodeId}
-use Rattle.node_id.specs.NodeId.{meaning, wire, refusal}
-use Rattle.image.proofs.Laws.{number-short, number-long, output-short, output-long, report-short, report-long}
+use Rattle.node_id.specs.NodeId.{meaning, wire, writeRefusal}
+use Rattle.image.proofs.Laws.{write-short, write-long}
 use Rattle.node_id_image.specs.NodeIdImage.{recordAt, writes, stores}
 use borrow.Author.Needs.{needs}
 use Rattle.node_id_image.proofs.write.Statement.{statement}
 use Rattle.node_id_image.proofs.write.Tie as tie
 
-module _ (m texts d : List ℕ) (r : NodeId) (e : r ≡ recordAt m) where
-  wrote : (w : Written) → w ≡ answered (refusal texts r) (wire (meaning texts r)) (length d) → w ≡ writes m texts d
-  unfolding writes
-  wrote w q = rw e at q
-
-  left : (o : List ℕ) → o ≡ stored (refusal texts r) d (wire (meaning texts r)) → o ≡ stores m texts d
-  unfolding stores
-  left o q = rw e at q
-
-long-enough-requires : tie.Need-long-enough-requires
-long-enough-requires c κs = search needs
+wrote : (m texts d : List ℕ) {r : NodeId} {v : Written} {o : List ℕ} → r ≡ recordAt m
+    → (v ≡ answered (writeRefusal texts r) (wire (meaning texts r)) (length d)) × (o ≡ stored (writeRefusal texts r) d (wire (meaning texts r)))
+    → (v ≡ writes m texts d) × (o ≡ stores m texts d)
+unfolding writes stores
+wrote m texts d e q = rw e at q
 
 returns : tie.Need-returns
-returns c =
-    let k = c .before .long-enough .ensures in
-    let h = c .if1 .taken in
-    (number-short _ _ k h _, (output-short _ _ k h _ _, report-short _ _ k h _ _))
-
-record-at-requires : tie.Need-record-at-requires
-record-at-requires c κs = search needs
-
-marshal-requires : tie.Need-marshal-requires
-marshal-requires c κs = search needs
-
-put-report-requires : tie.Need-put-report-requires
-put-report-requires c κs = search needs
-
-same-length : tie.Need-same-length
-same-length c = search needs
-
-same-length-2 : tie.Need-same-length-2
-same-length-2 c = search needs
+returns c = write-short _ _ _ _ (c .before .long-enough .ensures) (c .if1 .taken)
 
 returns-2 : tie.Need-returns-2
 returns-2 c =
     let p = c .before .before in
-    let w = p .before .before .before in
-    let r = w .before .before .before in
-    let b = r .before in
-    let t = b .before in
-    let k = t .long-enough .ensures in
-    let h = b .if1 .left in
-    let e = r .record-at .ensures in
-    let m = w .marshal .ensures in
-    let q = p .put-report .ensures in
-    (number-long _ _ k h _ _ _ (wrote _ _ _ _ e _ (m .0)) (q .0), (output-long _ _ k h _ _ _ (left _ _ _ _ e _ (m .1)), report-long _ _ k h _ _ _ _ (wrote _ _ _ _ e _ (m .0)) (q .1)))
+    let m = p .before .before .before in
+    let r = m .before .before .before in
+    write-long _ _ (r .before .before .long-enough .ensures) (r .before .if1 .left) (wrote _ _ _ (r .record-at .ensures) (m .marshal .ensures)) (p .put-report .ensures)
 
 pub write-spec : {M : Type 1} → statement M
 write-spec =
     tie.close
     (tie.spec
-    long-enough-requires
-    returns
-    record-at-requires
-    marshal-requires
-    put-report-requires
-    same-length
-    same-length-2
-    returns-2)
+    (λ c κs. search needs) returns (λ c κs. search needs) (λ c κs. search needs) (λ c κs. search needs)
+    (λ c. search needs) (λ c. search needs) returns-2)

@@ -1,27 +1,12 @@
--- `outer_header_creation_image::sends_port` meets its contract: a flag of two asks for it.
-use Prim.Native.Nat.{ℕ}
-use mathlib.Core.Path.{_≡_}
-use mathlib.Core.Bool.{Bool, _||_}
-use Rattle.octets.specs.Octets.{bit}
-use Rattle.outer_header_creation.specs.OuterHeaderCreation.{flagsOf, asked}
+-- `outer_header_creation_image::sends_port` meets its contract: it is that field of `sends`.
+use mathlib.Core.Path.{ap}
+use Rattle.outer_header_creation.specs.declared.SentFields.{SentFields}
 use borrow.Author.Needs.{needs}
 use Rattle.outer_header_creation_image.proofs.sends_port.Statement.{statement}
 use Rattle.outer_header_creation_image.proofs.sends_port.Tie as tie
 
-each : (f : ℕ) (x y r : Bool) → x ≡ bit 2 f → y ≡ bit 3 f → r ≡ x || y → r ≡ asked (flagsOf f) .port
-each f x y r p q e = rw (e, p, q)
-
-bit-requires : tie.Need-bit-requires
-bit-requires c κs = search needs
-
-bit-requires-2 : tie.Need-bit-requires-2
-bit-requires-2 c κs = search needs
-
-either-requires : tie.Need-either-requires
-either-requires c κs = search needs
-
 returns : tie.Need-returns
-returns c = search each
+returns c = ap (λ (s : SentFields). s .port) (c .sends .ensures)
 
 pub sends-port-spec : {M : Type 1} → statement M
-sends-port-spec = tie.close (tie.spec bit-requires bit-requires-2 either-requires returns)
+sends-port-spec = tie.close (tie.spec (λ c κs. search needs) returns)

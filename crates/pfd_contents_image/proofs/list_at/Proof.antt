@@ -16,21 +16,6 @@ found : (m : List ℕ) (at p n k : ℕ)
 unfolding listAt
 found m at p n k q0 q1 q2 = rw (q2, q1, q0)
 
-number-at-requires : tie.Need-number-at-requires
-number-at-requires c κs = search needs
-
-add-number-at : tie.Need-add-number-at
-add-number-at c = search needs
-
-number-at-requires-2 : tie.Need-number-at-requires-2
-number-at-requires-2 c κs = search needs
-
-add-number-at-2 : tie.Need-add-number-at-2
-add-number-at-2 c = search needs
-
-number-at-requires-3 : tie.Need-number-at-requires-3
-number-at-requires-3 c κs = search needs
-
 returns : tie.Need-returns
 returns c =
     let c2 = c .before in
@@ -40,4 +25,6 @@ returns c =
 pub list-at-spec : {M : Type 1} → statement M
 list-at-spec =
     tie.close
-    (tie.spec number-at-requires add-number-at number-at-requires-2 add-number-at-2 number-at-requires-3 returns)
+    (tie.spec
+    (λ c κs. search needs) (λ c. search needs) (λ c κs. search needs) (λ c. search needs) (λ c κs. search needs)
+    returns)

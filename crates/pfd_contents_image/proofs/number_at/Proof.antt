@@ -14,21 +14,6 @@ use Rattle.pfd_contents_image.proofs.number_at.Tie as tie
 same : (m : List ℕ) (at : ℕ) → numberAt (take (at + 8 - at) (drop at m)) 0 ≡ numberAt m at
 same m at = rw (add-sub-cancel-left at 8, take-take 8 8 (drop at m) (omega arith))
 
-add-u64-at : tie.Need-add-u64-at
-add-u64-at c = search needs
-
-sub-u64-at : tie.Need-sub-u64-at
-sub-u64-at c = search needs
-
-part-u64-at-start : tie.Need-part-u64-at-start
-part-u64-at-start c = search needs
-
-part-u64-at-end : tie.Need-part-u64-at-end
-part-u64-at-end c = search needs
-
-u64-at-requires : tie.Need-u64-at-requires
-u64-at-requires c κs = search needs
-
 returns : tie.Need-returns
 returns c =
     let a = c .before .before .before .args in
@@ -37,4 +22,5 @@ returns c =
 pub number-at-spec : {M : Type 1} → statement M
 number-at-spec =
     tie.close
-    (tie.spec add-u64-at sub-u64-at part-u64-at-start part-u64-at-end u64-at-requires returns)
+    (tie.spec
+    (λ c. search needs) (λ c. search needs) (λ c. search needs) (λ c. search needs) (λ c κs. search needs) returns)

@@ -4,53 +4,32 @@ use mathlib.Core.Path.{_≡_, refl}
 use mathlib.Core.Bool.{false}
 use mathlib.Core.List.{List, [], _∷_, _++_}
 use lib.ListN.{length}
-use Rattle.answer.specs.declared.Answer.{Answer}
-use Rattle.octets.specs.Octets.{under, flagByte, put}
+use Rattle.answer.specs.declared.Answer.the-variants.{Done}
+use Rattle.octets.specs.Octets.{ifSet, flagByte, put}
 use Rattle.pfd_contents.specs.declared.PfdContents.{PfdContents}
 use Rattle.image.specs.Image.{head}
 use Rattle.image.proofs.Laws.{last-part, then-part, then-byte, then-head}
-use Rattle.pfd_contents_image.specs.PfdContentsImage.{textsImage, listsImage, recordImage}
+use Rattle.pfd_contents_image.specs.PfdContentsImage.{flagsAt, givenAt, flowAt, flowsAt, size, textsImage, listsImage, recordImage}
 use Rattle.pfd_contents_image.proofs.Laws.{length-texts, length-lists}
 use borrow.Author.Needs.{needs}
 use Rattle.pfd_contents_image.proofs.put_image.Statement.{statement}
 use Rattle.pfd_contents_image.proofs.put_image.Tie as tie
 
-stored : (d d1 d2 d3 d4 d5 : List ℕ) (a : Answer) (n : ℕ) (r : PfdContents) (g : ℕ) → 194 ≤ length d
+stored : (d d1 d2 d3 d4 d5 : List ℕ) (n : ℕ) (r : PfdContents) (g : ℕ) → size ≤ length d
     → g ≡ flagByte (r .«flow_description» .given ∷ r .url .given ∷ r .«domain_name» .given ∷ r .«custom_pfd_content» .given ∷ r .«domain_name_protocol» .given ∷ false ∷ false ∷ false ∷ [])
-    → d1 ≡ put d 122 (listsImage r)
-    → d2 ≡ put d1 42 (textsImage r)
-    → d3 ≡ put d2 41 (g ∷ [])
-    → d4 ≡ put d3 40 (r .flags ∷ [])
-    → d5 ≡ put d4 0 (head a n)
-    → d5 ≡ put d 0 (head a n ++ recordImage r)
-unfolding recordImage flagByte under
-stored d d1 d2 d3 d4 d5 a n r g room eg q1 q2 q3 q4 q5 =
-    let s1 = last-part 194 72 122 (listsImage r) room (length-lists r) refl q1 in
-    let s2 = then-part s1 80 42 (textsImage r) (length-texts r) q2 refl in
-    let s3 = then-byte s2 41 g q3 refl in
-    let s4 = then-byte s3 40 (r .flags) q4 refl in
-    rw eg at (then-head s4 a n q5 refl)
-
-flag-byte-requires : tie.Need-flag-byte-requires
-flag-byte-requires c κs = search needs
-
-put-lists-requires : tie.Need-put-lists-requires
-put-lists-requires c κs = search needs
-
-put-texts-requires : tie.Need-put-texts-requires
-put-texts-requires c κs = search needs
-
-put-byte-requires : tie.Need-put-byte-requires
-put-byte-requires c κs = search needs
-
-put-byte-requires-2 : tie.Need-put-byte-requires-2
-put-byte-requires-2 c κs = search needs
-
-put-head-requires : tie.Need-put-head-requires
-put-head-requires c κs = search needs
-
-same-length : tie.Need-same-length
-same-length c = search needs
+    → d1 ≡ put d flowsAt (listsImage r)
+    → d2 ≡ put d1 flowAt (textsImage r)
+    → d3 ≡ put d2 givenAt (g ∷ [])
+    → d4 ≡ put d3 flagsAt (r .flags ∷ [])
+    → d5 ≡ put d4 0 (head Done n)
+    → d5 ≡ put d 0 (head Done n ++ recordImage r)
+unfolding recordImage flagByte ifSet
+stored d d1 d2 d3 d4 d5 n r g room eg q1 q2 q3 q4 q5 =
+    let s1 = last-part size 72 flowsAt (listsImage r) room (length-lists r) refl q1 in
+    let s2 = then-part s1 80 flowAt (textsImage r) (length-texts r) q2 refl in
+    let s3 = then-byte s2 givenAt g q3 refl in
+    let s4 = then-byte s3 flagsAt (r .flags) q4 refl in
+    rw eg at (then-head s4 Done n q5 refl)
 
 returns : tie.Need-returns
 returns c =
@@ -61,17 +40,11 @@ returns c =
     let p1 = p2 .before .before .before .before in
     let g = p1 .before .before in
     let start = g .before .before .before .before .before .before .before in
-    stored _ _ _ _ _ _ _ _ _ _ (start .pre) (g .flag-byte .ensures) (p1 .put-lists .ensures) (p2 .put-texts .ensures) (p3 .put-byte .ensures) (p4 .put-byte2 .ensures) (p5 .put-head .ensures)
+    stored _ _ _ _ _ _ _ _ _ (start .pre) (g .flag-byte .ensures) (p1 .put-lists .ensures) (p2 .put-texts .ensures) (p3 .put-byte .ensures) (p4 .put-byte2 .ensures) (p5 .put-head .ensures)
 
 pub put-image-spec : {M : Type 1} → statement M
 put-image-spec =
     tie.close
     (tie.spec
-    flag-byte-requires
-    put-lists-requires
-    put-texts-requires
-    put-byte-requires
-    put-byte-requires-2
-    put-head-requires
-    same-length
-    returns)
+    (λ c κs. search needs) (λ c κs. search needs) (λ c κs. search needs) (λ c κs. search needs) (λ c κs. search needs)
+    (λ c κs. search needs) (λ c. search needs) returns)

@@ -6,41 +6,23 @@ use mathlib.Core.List.{List}
 use lib.ListN.{length}
 use Rattle.octets.specs.Octets.{put}
 use Rattle.text_fields.specs.declared.TextList.{TextList}
-use Rattle.image.specs.Image.{low}
-use Rattle.image.proofs.Laws.{length-low, last-part, then-number}
+use Rattle.image.specs.Image.{littleEndianBytes}
+use Rattle.image.proofs.Laws.{length-littleEndianBytes, last-part, then-number}
 use Rattle.pfd_contents_image.specs.PfdContentsImage.{listImage}
 use borrow.Author.Needs.{needs}
 use Rattle.pfd_contents_image.proofs.put_list.Statement.{statement}
 use Rattle.pfd_contents_image.proofs.put_list.Tie as tie
 
 stored : (d d1 d2 d3 : List ℕ) (at : ℕ) (l : TextList) → at + 24 ≤ length d
-    → d1 ≡ put d (at + 16) (low 8 (l .count))
-    → d2 ≡ put d1 (at + 8) (low 8 (l .len))
-    → d3 ≡ put d2 at (low 8 (l .place))
+    → d1 ≡ put d (at + 16) (littleEndianBytes 8 (l .count))
+    → d2 ≡ put d1 (at + 8) (littleEndianBytes 8 (l .len))
+    → d3 ≡ put d2 at (littleEndianBytes 8 (l .place))
     → d3 ≡ put d at (listImage l)
 unfolding listImage
 stored d d1 d2 d3 at l room q1 q2 q3 =
-    let s1 = last-part (at + 24) 8 (at + 16) (low 8 (l .count)) room (length-low 8 (l .count)) (omega arith) q1 in
+    let s1 = last-part (at + 24) 8 (at + 16) (littleEndianBytes 8 (l .count)) room (length-littleEndianBytes 8 (l .count)) (omega arith) q1 in
     let s2 = then-number s1 (at + 8) (l .len) q2 (omega arith) in
     then-number s2 at (l .place) q3 (omega arith) .is
-
-add-put-u64 : tie.Need-add-put-u64
-add-put-u64 c = search needs
-
-put-u64-requires : tie.Need-put-u64-requires
-put-u64-requires c κs = search needs
-
-add-put-u64-2 : tie.Need-add-put-u64-2
-add-put-u64-2 c = search needs
-
-put-u64-requires-2 : tie.Need-put-u64-requires-2
-put-u64-requires-2 c κs = search needs
-
-put-u64-requires-3 : tie.Need-put-u64-requires-3
-put-u64-requires-3 c κs = search needs
-
-same-length : tie.Need-same-length
-same-length c = search needs
 
 returns : tie.Need-returns
 returns c =
@@ -54,10 +36,5 @@ pub put-list-spec : {M : Type 1} → statement M
 put-list-spec =
     tie.close
     (tie.spec
-    add-put-u64
-    put-u64-requires
-    add-put-u64-2
-    put-u64-requires-2
-    put-u64-requires-3
-    same-length
-    returns)
+    (λ c. search needs) (λ c κs. search needs) (λ c. search needs) (λ c κs. search needs) (λ c κs. search needs)
+    (λ c. search needs) returns)

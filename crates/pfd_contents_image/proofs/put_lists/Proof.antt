@@ -6,34 +6,22 @@ use lib.ListN.{length}
 use Rattle.octets.specs.Octets.{put}
 use Rattle.pfd_contents.specs.declared.PfdContents.{PfdContents}
 use Rattle.image.proofs.Laws.{last-part, then-part}
-use Rattle.pfd_contents_image.specs.PfdContentsImage.{listImage, listsImage}
+use Rattle.pfd_contents_image.specs.PfdContentsImage.{flowsAt, urlsAt, namesAt, size, listImage, listsImage}
 use Rattle.pfd_contents_image.proofs.Laws.{length-list}
 use borrow.Author.Needs.{needs}
 use Rattle.pfd_contents_image.proofs.put_lists.Statement.{statement}
 use Rattle.pfd_contents_image.proofs.put_lists.Tie as tie
 
-stored : (d d1 d2 d3 : List ℕ) (r : PfdContents) → 194 ≤ length d
-    → d1 ≡ put d 170 (listImage (r .«additional_domain_name_and_protocol»))
-    → d2 ≡ put d1 146 (listImage (r .«additional_url»))
-    → d3 ≡ put d2 122 (listImage (r .«additional_flow_description»))
-    → d3 ≡ put d 122 (listsImage r)
+stored : (d d1 d2 d3 : List ℕ) (r : PfdContents) → size ≤ length d
+    → d1 ≡ put d namesAt (listImage (r .«additional_domain_name_and_protocol»))
+    → d2 ≡ put d1 urlsAt (listImage (r .«additional_url»))
+    → d3 ≡ put d2 flowsAt (listImage (r .«additional_flow_description»))
+    → d3 ≡ put d flowsAt (listsImage r)
 unfolding listsImage
 stored d d1 d2 d3 r room q1 q2 q3 =
-    let s1 = last-part 194 24 170 _ room (length-list (r .«additional_domain_name_and_protocol»)) refl q1 in
-    let s2 = then-part s1 24 146 _ (length-list (r .«additional_url»)) q2 refl in
-    then-part s2 24 122 _ (length-list (r .«additional_flow_description»)) q3 refl .is
-
-put-list-requires : tie.Need-put-list-requires
-put-list-requires c κs = search needs
-
-put-list-requires-2 : tie.Need-put-list-requires-2
-put-list-requires-2 c κs = search needs
-
-put-list-requires-3 : tie.Need-put-list-requires-3
-put-list-requires-3 c κs = search needs
-
-same-length : tie.Need-same-length
-same-length c = search needs
+    let s1 = last-part size 24 namesAt _ room (length-list (r .«additional_domain_name_and_protocol»)) refl q1 in
+    let s2 = then-part s1 24 urlsAt _ (length-list (r .«additional_url»)) q2 refl in
+    then-part s2 24 flowsAt _ (length-list (r .«additional_flow_description»)) q3 refl .is
 
 returns : tie.Need-returns
 returns c =
@@ -46,4 +34,5 @@ returns c =
 pub put-lists-spec : {M : Type 1} → statement M
 put-lists-spec =
     tie.close
-    (tie.spec put-list-requires put-list-requires-2 put-list-requires-3 same-length returns)
+    (tie.spec
+    (λ c κs. search needs) (λ c κs. search needs) (λ c κs. search needs) (λ c. search needs) returns)

@@ -6,33 +6,21 @@ use mathlib.Core.List.{List}
 use lib.ListN.{length}
 use Rattle.octets.specs.Octets.{put}
 use Rattle.text_fields.specs.declared.MaybeText.{MaybeText}
-use Rattle.image.specs.Image.{low}
-use Rattle.image.proofs.Laws.{length-low, last-part, then-number}
+use Rattle.image.specs.Image.{littleEndianBytes}
+use Rattle.image.proofs.Laws.{length-littleEndianBytes, last-part, then-number}
 use Rattle.pfd_contents_image.specs.PfdContentsImage.{textImage}
 use borrow.Author.Needs.{needs}
 use Rattle.pfd_contents_image.proofs.put_text.Statement.{statement}
 use Rattle.pfd_contents_image.proofs.put_text.Tie as tie
 
 stored : (d d1 d2 : List ℕ) (at : ℕ) (t : MaybeText) → at + 16 ≤ length d
-    → d1 ≡ put d (at + 8) (low 8 (t .len))
-    → d2 ≡ put d1 at (low 8 (t .place))
+    → d1 ≡ put d (at + 8) (littleEndianBytes 8 (t .len))
+    → d2 ≡ put d1 at (littleEndianBytes 8 (t .place))
     → d2 ≡ put d at (textImage t)
 unfolding textImage
 stored d d1 d2 at t room q1 q2 =
-    let s1 = last-part (at + 16) 8 (at + 8) (low 8 (t .len)) room (length-low 8 (t .len)) (omega arith) q1 in
+    let s1 = last-part (at + 16) 8 (at + 8) (littleEndianBytes 8 (t .len)) room (length-littleEndianBytes 8 (t .len)) (omega arith) q1 in
     then-number s1 at (t .place) q2 (omega arith) .is
-
-add-put-u64 : tie.Need-add-put-u64
-add-put-u64 c = search needs
-
-put-u64-requires : tie.Need-put-u64-requires
-put-u64-requires c κs = search needs
-
-put-u64-requires-2 : tie.Need-put-u64-requires-2
-put-u64-requires-2 c κs = search needs
-
-same-length : tie.Need-same-length
-same-length c = search needs
 
 returns : tie.Need-returns
 returns c =
@@ -43,4 +31,6 @@ returns c =
 
 pub put-text-spec : {M : Type 1} → statement M
 put-text-spec =
-    tie.close (tie.spec add-put-u64 put-u64-requires put-u64-requires-2 same-length returns)
+    tie.close
+    (tie.spec
+    (λ c. search needs) (λ c κs. search needs) (λ c κs. search needs) (λ c. search needs) returns)

@@ -7,44 +7,26 @@ use lib.ListN.{length}
 use Rattle.octets.specs.Octets.{put}
 use Rattle.pfd_contents.specs.declared.PfdContents.{PfdContents}
 use Rattle.image.proofs.Laws.{last-part, then-part}
-use Rattle.pfd_contents_image.specs.PfdContentsImage.{textImage, textsImage}
+use Rattle.pfd_contents_image.specs.PfdContentsImage.{flowAt, urlAt, domainAt, customAt, protocolAt, flowsAt, size, textImage, textsImage}
 use Rattle.pfd_contents_image.proofs.Laws.{length-text}
 use borrow.Author.Needs.{needs}
 use Rattle.pfd_contents_image.proofs.put_texts.Statement.{statement}
 use Rattle.pfd_contents_image.proofs.put_texts.Tie as tie
 
-stored : (d d1 d2 d3 d4 d5 : List ℕ) (r : PfdContents) → 194 ≤ length d
-    → d1 ≡ put d 106 (textImage (r .«domain_name_protocol»))
-    → d2 ≡ put d1 90 (textImage (r .«custom_pfd_content»))
-    → d3 ≡ put d2 74 (textImage (r .«domain_name»))
-    → d4 ≡ put d3 58 (textImage (r .url))
-    → d5 ≡ put d4 42 (textImage (r .«flow_description»))
-    → d5 ≡ put d 42 (textsImage r)
+stored : (d d1 d2 d3 d4 d5 : List ℕ) (r : PfdContents) → size ≤ length d
+    → d1 ≡ put d protocolAt (textImage (r .«domain_name_protocol»))
+    → d2 ≡ put d1 customAt (textImage (r .«custom_pfd_content»))
+    → d3 ≡ put d2 domainAt (textImage (r .«domain_name»))
+    → d4 ≡ put d3 urlAt (textImage (r .url))
+    → d5 ≡ put d4 flowAt (textImage (r .«flow_description»))
+    → d5 ≡ put d flowAt (textsImage r)
 unfolding textsImage
 stored d d1 d2 d3 d4 d5 r room q1 q2 q3 q4 q5 =
-    let s1 = last-part 122 16 106 _ (omega arith) (length-text (r .«domain_name_protocol»)) refl q1 in
-    let s2 = then-part s1 16 90 _ (length-text (r .«custom_pfd_content»)) q2 refl in
-    let s3 = then-part s2 16 74 _ (length-text (r .«domain_name»)) q3 refl in
-    let s4 = then-part s3 16 58 _ (length-text (r .url)) q4 refl in
-    then-part s4 16 42 _ (length-text (r .«flow_description»)) q5 refl .is
-
-put-text-requires : tie.Need-put-text-requires
-put-text-requires c κs = search needs
-
-put-text-requires-2 : tie.Need-put-text-requires-2
-put-text-requires-2 c κs = search needs
-
-put-text-requires-3 : tie.Need-put-text-requires-3
-put-text-requires-3 c κs = search needs
-
-put-text-requires-4 : tie.Need-put-text-requires-4
-put-text-requires-4 c κs = search needs
-
-put-text-requires-5 : tie.Need-put-text-requires-5
-put-text-requires-5 c κs = search needs
-
-same-length : tie.Need-same-length
-same-length c = search needs
+    let s1 = last-part flowsAt 16 protocolAt _ (omega arith) (length-text (r .«domain_name_protocol»)) refl q1 in
+    let s2 = then-part s1 16 customAt _ (length-text (r .«custom_pfd_content»)) q2 refl in
+    let s3 = then-part s2 16 domainAt _ (length-text (r .«domain_name»)) q3 refl in
+    let s4 = then-part s3 16 urlAt _ (length-text (r .url)) q4 refl in
+    then-part s4 16 flowAt _ (length-text (r .«flow_description»)) q5 refl .is
 
 returns : tie.Need-returns
 returns c =
@@ -60,10 +42,5 @@ pub put-texts-spec : {M : Type 1} → statement M
 put-texts-spec =
     tie.close
     (tie.spec
-    put-text-requires
-    put-text-requires-2
-    put-text-requires-3
-    put-text-requires-4
-    put-text-requires-5
-    same-length
-    returns)
+    (λ c κs. search needs) (λ c κs. search needs) (λ c κs. search needs) (λ c κs. search needs) (λ c κs. search needs)
+    (λ c. search needs) returns)

@@ -8,67 +8,31 @@ use lib.ListN.{getD}
 use Rattle.octets.specs.Octets.{bit}
 use Rattle.text_fields.specs.declared.MaybeText.{MaybeText}
 use Rattle.text_fields.specs.declared.TextList.{TextList}
-use Rattle.pfd_contents_image.specs.PfdContentsImage.{textAt, listAt, recordAt}
+use Rattle.pfd_contents_image.specs.PfdContentsImage.{flagsAt, givenAt, flowAt, urlAt, domainAt, customAt, protocolAt, flowsAt, urlsAt, namesAt, textAt, listAt, recordAt}
 use borrow.Author.Needs.{needs}
 use Rattle.pfd_contents_image.proofs.record_at.Statement.{statement}
 use Rattle.pfd_contents_image.proofs.record_at.Tie as tie
 
 found : (m : List ℕ) (f g : ℕ) (b0 b1 b2 b3 b4 : Bool) (flow url domain custom protocol : MaybeText) (flows urls names : TextList)
-    → f ≡ getD m 40 0
-    → g ≡ getD m 41 0
+    → f ≡ getD m flagsAt 0
+    → g ≡ getD m givenAt 0
     → b0 ≡ bit 0 g
-    → flow ≡ textAt m 42 b0
+    → flow ≡ textAt m flowAt b0
     → b1 ≡ bit 1 g
-    → url ≡ textAt m 58 b1
+    → url ≡ textAt m urlAt b1
     → b2 ≡ bit 2 g
-    → domain ≡ textAt m 74 b2
+    → domain ≡ textAt m domainAt b2
     → b3 ≡ bit 3 g
-    → custom ≡ textAt m 90 b3
+    → custom ≡ textAt m customAt b3
     → b4 ≡ bit 4 g
-    → protocol ≡ textAt m 106 b4
-    → flows ≡ listAt m 122
-    → urls ≡ listAt m 146
-    → names ≡ listAt m 170
+    → protocol ≡ textAt m protocolAt b4
+    → flows ≡ listAt m flowsAt
+    → urls ≡ listAt m urlsAt
+    → names ≡ listAt m namesAt
     → record { flags = f; «flow_description» = flow; url = url; «domain_name» = domain; «custom_pfd_content» = custom; «domain_name_protocol» = protocol; «additional_flow_description» = flows; «additional_url» = urls; «additional_domain_name_and_protocol» = names } ≡ recordAt m
 unfolding recordAt
 found m f g b0 b1 b2 b3 b4 flow url domain custom protocol flows urls names q0 q1 q2 q3 q4 q5 q6 q7 q8 q9 q10 q11 q12 q13 q14 =
     rw (q14, q13, q12, q11, q10, q9, q8, q7, q6, q5, q4, q3, q2, q1, q0)
-
-byte-at-requires : tie.Need-byte-at-requires
-byte-at-requires c κs = search needs
-
-byte-at-requires-2 : tie.Need-byte-at-requires-2
-byte-at-requires-2 c κs = search needs
-
-bit-requires : tie.Need-bit-requires
-bit-requires c κs = search needs
-
-text-at-requires : tie.Need-text-at-requires
-text-at-requires c κs = search needs
-
-bit-requires-2 : tie.Need-bit-requires-2
-bit-requires-2 c κs = search needs
-
-text-at-requires-2 : tie.Need-text-at-requires-2
-text-at-requires-2 c κs = search needs
-
-bit-requires-3 : tie.Need-bit-requires-3
-bit-requires-3 c κs = search needs
-
-text-at-requires-3 : tie.Need-text-at-requires-3
-text-at-requires-3 c κs = search needs
-
-bit-requires-4 : tie.Need-bit-requires-4
-bit-requires-4 c κs = search needs
-
-text-at-requires-4 : tie.Need-text-at-requires-4
-text-at-requires-4 c κs = search needs
-
-bit-requires-5 : tie.Need-bit-requires-5
-bit-requires-5 c κs = search needs
-
-text-at-requires-5 : tie.Need-text-at-requires-5
-text-at-requires-5 c κs = search needs
 
 list-at-requires : tie.Need-list-at-requires
 list-at-requires c κs = omega (arith, c .before .before .before .before .before .before .before .before .before .before .before .before .before .pre)
@@ -102,19 +66,6 @@ pub record-at-spec : {M : Type 1} → statement M
 record-at-spec =
     tie.close
     (tie.spec
-    byte-at-requires
-    byte-at-requires-2
-    bit-requires
-    text-at-requires
-    bit-requires-2
-    text-at-requires-2
-    bit-requires-3
-    text-at-requires-3
-    bit-requires-4
-    text-at-requires-4
-    bit-requires-5
-    text-at-requires-5
-    list-at-requires
-    list-at-requires-2
-    list-at-requires-3
-    returns)
+    (λ c κs. search needs) (λ c κs. search needs) (λ c κs. search needs) (λ c κs. search needs) (λ c κs. search needs)
+    (λ c κs. search needs) (λ c κs. search needs) (λ c κs. search needs) (λ c κs. search needs) (λ c κs. search needs)
+    (λ c κs. search needs) (λ c κs. search needs) list-at-requires list-at-requires-2 list-at-requires-3 returns)

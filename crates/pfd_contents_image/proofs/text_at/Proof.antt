@@ -16,19 +16,13 @@ found : (m : List ℕ) (at : ℕ) (g : Bool) (p n : ℕ)
 unfolding textAt
 found m at g p n q0 q1 = rw (q1, q0)
 
-number-at-requires : tie.Need-number-at-requires
-number-at-requires c κs = search needs
-
-add-number-at : tie.Need-add-number-at
-add-number-at c = search needs
-
-number-at-requires-2 : tie.Need-number-at-requires-2
-number-at-requires-2 c κs = search needs
-
 returns : tie.Need-returns
 returns c =
     let c1 = c .before in
     found _ _ _ _ _ (c1 .number-at .ensures) (c .number-at2 .ensures)
 
 pub text-at-spec : {M : Type 1} → statement M
-text-at-spec = tie.close (tie.spec number-at-requires add-number-at number-at-requires-2 returns)
+text-at-spec =
+    tie.close
+    (tie.spec
+    (λ c κs. search needs) (λ c. search needs) (λ c κs. search needs) returns)

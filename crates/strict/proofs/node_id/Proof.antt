@@ -7,12 +7,12 @@ use Rattle.strict.proofs.node_id.Tie as tie
 unmarshal-requires : tie.Need-unmarshal-requires
 unmarshal-requires c κs = search needs
 
-judged-requires : tie.Need-judged-requires
-judged-requires c κs = search needs
+accepted-and-requires : tie.Need-accepted-and-requires
+accepted-and-requires c κs = search needs
 
 returns : tie.Need-returns
 unfolding verdict
-returns c = rw (c .judged .ensures, c .before .unmarshal .ensures)
+returns c = rw (c .accepted-and .ensures, c .before .unmarshal .ensures)
 
 pub node-id-spec : {M : Type 1} → statement M
-node-id-spec = tie.close (tie.spec unmarshal-requires judged-requires returns)
+node-id-spec = tie.close (tie.spec unmarshal-requires accepted-and-requires returns)

@@ -10,15 +10,15 @@ unmarshal-requires c κs = search needs
 complete-requires : tie.Need-complete-requires
 complete-requires c κs = search needs
 
-judged-requires : tie.Need-judged-requires
-judged-requires c κs = search needs
+accepted-and-requires : tie.Need-accepted-and-requires
+accepted-and-requires c κs = search needs
 
 returns : tie.Need-returns
 unfolding verdict
 returns c =
     let read = c .before .before .before in
-    rw (c .judged .ensures, c .before .complete .ensures (read .before .before .args .payload .now), read .unmarshal .ensures)
+    rw (c .accepted-and .ensures, c .before .complete .ensures (read .before .before .args .payload .now), read .unmarshal .ensures)
 
 pub pfd-contents-spec : {M : Type 1} → statement M
 pfd-contents-spec =
-    tie.close (tie.spec unmarshal-requires complete-requires judged-requires returns)
+    tie.close (tie.spec unmarshal-requires complete-requires accepted-and-requires returns)

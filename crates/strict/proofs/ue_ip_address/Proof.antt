@@ -4,15 +4,15 @@ use Rattle.strict.specs.Strict.{verdict}
 use Rattle.strict.proofs.ue_ip_address.Statement.{statement}
 use Rattle.strict.proofs.ue_ip_address.Tie as tie
 
-answer-requires : tie.Need-answer-requires
-answer-requires c κs = search needs
+unmarshal-requires : tie.Need-unmarshal-requires
+unmarshal-requires c κs = search needs
 
-judged-requires : tie.Need-judged-requires
-judged-requires c κs = search needs
+accepted-and-requires : tie.Need-accepted-and-requires
+accepted-and-requires c κs = search needs
 
 returns : tie.Need-returns
 unfolding verdict
-returns c = rw (c .judged .ensures, c .before .answer .ensures)
+returns c = rw (c .accepted-and .ensures, c .before .unmarshal .ensures)
 
 pub ue-ip-address-spec : {M : Type 1} → statement M
-ue-ip-address-spec = tie.close (tie.spec answer-requires judged-requires returns)
+ue-ip-address-spec = tie.close (tie.spec unmarshal-requires accepted-and-requires returns)

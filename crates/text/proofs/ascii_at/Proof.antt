@@ -6,13 +6,13 @@ use native.Mathlib.Omega.{arith}
 use borrow.Author.Tests.{ltb-true}
 use borrow.Author.Needs.{needs}
 use lib.ListN.{length, getD}
-use Rattle.text.specs.Steps.{Plain}
-use Rattle.text.proofs.Laws.{plain-none, plain-more, or-ascii}
+use Rattle.text.specs.Steps.{Ascii}
+use Rattle.text.proofs.Laws.{ascii-none, ascii-more, or-ascii}
 use Rattle.text.proofs.ascii_at.Statement.{statement}
 use Rattle.text.proofs.ascii_at.Tie as tie
 
 abbrev Inv-loop : tie.InvT-loop
-Inv-loop text at width bits₀ i₀ bits i = (i ≤ width) × (at + i ≤ length text) × (bits < 0x80 → Plain text at (at + i))
+Inv-loop text at width bits₀ i₀ bits i = (i ≤ width) × (at + i ≤ length text) × (bits < 0x80 → Ascii text at (at + i))
 
 abbrev μ-loop : tie.MeasureT-loop
 μ-loop text at width bits₀ i₀ bits i = width - i
@@ -26,7 +26,7 @@ returns c e = absurd (false≢true e)
 loop-holds : tie.Need-loop-holds Inv-loop μ-loop
 loop-holds c =
     let a = c .before .args in
-    (omega arith, omega arith, λ _. plain-none (a .text .now) (a .at) (omega arith))
+    (omega arith, omega arith, λ _. ascii-none (a .text .now) (a .at) (omega arith))
 
 add-bits : tie.Need-add-bits Inv-loop μ-loop
 add-bits c = search needs
@@ -49,7 +49,7 @@ loop-again c =
       omega arith,
       λ p.
           let both = or-ascii (l .loop .bits) (getD (a .text .now) (a .at + i) 0) p in
-          rw (add-assoc (a .at) i 1) at (plain-more (a .text .now) (a .at) i (l .loop .inv .2 (both .0)) (omega arith) (both .1)),
+          rw (add-assoc (a .at) i 1) at (ascii-more (a .text .now) (a .at) i (l .loop .inv .2 (both .0)) (omega arith) (both .1)),
     )
 
 returns-2 : tie.Need-returns-2 Inv-loop μ-loop

@@ -3,7 +3,7 @@ use native.Mathlib.Omega.{arith}
 use borrow.Author.Needs.{needs}
 use lib.ListN.{length}
 use Rattle.text.specs.Steps.{Passed}
-use Rattle.text.proofs.Laws.{passed-on, passed-plain}
+use Rattle.text.proofs.Laws.{passed-on, passed-run}
 use Rattle.text.proofs.ascii_end.Statement.{statement}
 use Rattle.text.proofs.ascii_end.Tie as tie
 
@@ -30,7 +30,7 @@ loop-again : tie.Need-loop-again Inv-loop μ-loop
 loop-again c =
     let l = c .before .before in
     let block = c .before .ascii-at .ensures (c .if1 .taken) in
-    passed-on (l .loop .inv) (passed-plain _ _ _ (l .loop .at) block (omega arith) (omega arith))
+    passed-on (l .loop .inv) (passed-run _ _ _ (l .loop .at) block (omega arith) (omega arith))
 
 returns : tie.Need-returns Inv-loop μ-loop
 returns c = search needs

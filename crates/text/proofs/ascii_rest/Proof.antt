@@ -4,8 +4,8 @@ use native.Mathlib.Omega.{arith}
 use borrow.Author.Needs.{needs}
 use mathlib.Core.Bool.{false≢true}
 use lib.ListN.{length}
-use Rattle.text.specs.Steps.{Plain}
-use Rattle.text.proofs.Laws.{passed-plain}
+use Rattle.text.specs.Steps.{Ascii}
+use Rattle.text.proofs.Laws.{passed-run}
 use Rattle.text.proofs.ascii_rest.Statement.{statement}
 use Rattle.text.proofs.ascii_rest.Tie as tie
 
@@ -26,8 +26,8 @@ returns-3 c e =
     let o = c .before in
     let a = o .before .before .before .args in
     let end : length (a .text .now) - 8 + 8 ≡ length (a .text .now) = omega arith in
-    let word : Plain (a .text .now) (length (a .text .now) - 8) (length (a .text .now)) = rw end at (c .ascii-at .ensures e) in
-    passed-plain (a .text .now) (length (a .text .now) - 8) (length (a .text .now)) (a .from) word (omega arith) (omega arith)
+    let word : Ascii (a .text .now) (length (a .text .now) - 8) (length (a .text .now)) = rw end at (c .ascii-at .ensures e) in
+    passed-run (a .text .now) (length (a .text .now) - 8) (length (a .text .now)) (a .from) word (omega arith) (omega arith)
 
 pub ascii-rest-spec : {M : Type 1} → statement M
 ascii-rest-spec =

@@ -9,9 +9,6 @@ use Rattle.text.proofs.three_agree.Tie as tie
 two-agree-requires : tie.Need-two-agree-requires
 two-agree-requires c κs = search needs
 
-returns : tie.Need-returns
-returns c e = absurd (false≢true e)
-
 row-at-requires : tie.Need-row-at-requires
 row-at-requires c κs = search needs
 
@@ -37,7 +34,7 @@ three-agree-spec =
     tie.close
     (tie.spec
     two-agree-requires
-    returns
+    (λ c e. absurd (false≢true e))
     row-at-requires
     add-allows
     shared-slice-read-allows

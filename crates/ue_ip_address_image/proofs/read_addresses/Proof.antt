@@ -1,98 +1,25 @@
 -- `ue_ip_address_image::read_addresses` meets its contract: by V4 and V6.
-use mathlib.Core.Path.{sym, _∙_}
 use borrow.Author.Needs.{needs}
+use Rattle.octets.proofs.Laws.{flag-of}
 use Rattle.ue_ip_address_image.proofs.read_addresses.Statement.{statement}
 use Rattle.ue_ip_address_image.proofs.read_addresses.Tie as tie
 
-shared-slice-read-flags : tie.Need-shared-slice-read-flags
-shared-slice-read-flags c = search needs
+read-fields-requires : tie.Need-read-fields-requires
+read-fields-requires c κs = (search needs, (search needs, (search needs, (search needs, (search flag-of, (search flag-of, (search needs, search needs)))))))
 
-bit-requires : tie.Need-bit-requires
-bit-requires c κs = search needs
+read-fields-requires-2 : tie.Need-read-fields-requires-2
+read-fields-requires-2 c κs = (search needs, (search needs, (search needs, (search needs, (search flag-of, (search flag-of, (search needs, search needs)))))))
 
-bit-requires-2 : tie.Need-bit-requires-2
-bit-requires-2 c κs = search needs
+read-fields-requires-3 : tie.Need-read-fields-requires-3
+read-fields-requires-3 c κs = (search needs, (search needs, (search needs, (search needs, (search flag-of, (search flag-of, (search needs, search needs)))))))
 
-read-plain-requires : tie.Need-read-plain-requires
-read-plain-requires c κs =
-    let v6 = c .before in
-    let v4 = v6 .before in
-    let b2 = v4 .before in
-    let b1 = b2 .before in
-    let start = b1 .before .before .before .before in
-    let free = start .pre .1 .1 .1 in
-    (search needs, (search needs, (search needs, (free .0, (free .1 .0, (free .1 .1, (sym (v4 .if1 .taken) ∙ b2 .bit2 .ensures, sym (v6 .if2 .taken) ∙ b1 .bit .ensures)))))))
-
-same-length : tie.Need-same-length
-same-length c = search needs
-
-returns : tie.Need-returns
-returns c = search needs
-
-read-plain-requires-2 : tie.Need-read-plain-requires-2
-read-plain-requires-2 c κs =
-    let v6 = c .before in
-    let v4 = v6 .before in
-    let b2 = v4 .before in
-    let b1 = b2 .before in
-    let start = b1 .before .before .before .before in
-    let free = start .pre .1 .1 .1 in
-    (search needs, (search needs, (search needs, (free .0, (free .1 .0, (free .1 .1, (sym (v4 .if1 .taken) ∙ b2 .bit2 .ensures, sym (v6 .if2 .left) ∙ b1 .bit .ensures)))))))
-
-same-length-2 : tie.Need-same-length-2
-same-length-2 c = search needs
-
-returns-2 : tie.Need-returns-2
-returns-2 c = search needs
-
-read-plain-requires-3 : tie.Need-read-plain-requires-3
-read-plain-requires-3 c κs =
-    let v6 = c .before in
-    let v4 = v6 .before in
-    let b2 = v4 .before in
-    let b1 = b2 .before in
-    let start = b1 .before .before .before .before in
-    let free = start .pre .1 .1 .1 in
-    (search needs, (search needs, (search needs, (free .0, (free .1 .0, (free .1 .1, (sym (v4 .if1 .left) ∙ b2 .bit2 .ensures, sym (v6 .if3 .taken) ∙ b1 .bit .ensures)))))))
-
-same-length-3 : tie.Need-same-length-3
-same-length-3 c = search needs
-
-returns-3 : tie.Need-returns-3
-returns-3 c = search needs
-
-read-plain-requires-4 : tie.Need-read-plain-requires-4
-read-plain-requires-4 c κs =
-    let v6 = c .before in
-    let v4 = v6 .before in
-    let b2 = v4 .before in
-    let b1 = b2 .before in
-    let start = b1 .before .before .before .before in
-    let free = start .pre .1 .1 .1 in
-    (search needs, (search needs, (search needs, (free .0, (free .1 .0, (free .1 .1, (sym (v4 .if1 .left) ∙ b2 .bit2 .ensures, sym (v6 .if3 .left) ∙ b1 .bit .ensures)))))))
-
-same-length-4 : tie.Need-same-length-4
-same-length-4 c = search needs
-
-returns-4 : tie.Need-returns-4
-returns-4 c = search needs
+read-fields-requires-4 : tie.Need-read-fields-requires-4
+read-fields-requires-4 c κs = (search needs, (search needs, (search needs, (search needs, (search flag-of, (search flag-of, (search needs, search needs)))))))
 
 pub read-addresses-spec : {M : Type 1} → statement M
 read-addresses-spec =
     tie.close
     (tie.spec
-    shared-slice-read-flags
-    bit-requires
-    bit-requires-2
-    read-plain-requires
-    same-length
-    returns
-    read-plain-requires-2
-    same-length-2
-    returns-2
-    read-plain-requires-3
-    same-length-3
-    returns-3
-    read-plain-requires-4
-    same-length-4
-    returns-4)
+    (λ c. search needs) (λ c κs. search needs) (λ c κs. search needs) read-fields-requires (λ c. search needs)
+    (λ c. search needs) read-fields-requires-2 (λ c. search needs) (λ c. search needs) read-fields-requires-3
+    (λ c. search needs) (λ c. search needs) read-fields-requires-4 (λ c. search needs) (λ c. search needs))

@@ -4,17 +4,14 @@ use borrow.Author.Tests.{not-true, not-false}
 use Rattle.f_teid.proofs.Fteid.new_with_choose.Statement.{statement}
 use Rattle.f_teid.proofs.Fteid.new_with_choose.Tie as tie
 
-new-requires : tie.Need-new-requires
-new-requires c κs = search needs
-
 returns : tie.Need-returns
 returns c = rw (not-true (c .before .before .args .ch) (c .before .if1 .taken)) (c .new .ensures)
 
-byte-under-requires : tie.Need-byte-under-requires
-byte-under-requires c κs = search needs
-
 returns-2 : tie.Need-returns-2
-returns-2 c = rw (not-false (c .before .before .args .ch) (c .before .if1 .left), c .byte-under .ensures)
+returns-2 c = rw (not-false (c .before .before .args .ch) (c .before .if1 .left), c .byte-if-set .ensures)
 
 pub new-with-choose-spec : {M : Type 1} → statement M
-new-with-choose-spec = tie.close (tie.spec new-requires returns byte-under-requires returns-2)
+new-with-choose-spec =
+    tie.close
+    (tie.spec
+    (λ c κs. search needs) returns (λ c κs. search needs) returns-2)

@@ -32,29 +32,8 @@ module _ (b : FteidBuilder) (rule : ℕ) (e : rule ≡ broken b) where
   unfolding built builtBy builtOf
   done v4 v6 ch teid id q e4 e6 ec et ei = rw (← e, q, e4, e6, et, ec, ei)
 
-broken-requires : tie.Need-broken-requires
-broken-requires c κs = search needs
-
-empty-requires : tie.Need-empty-requires
-empty-requires c κs = search needs
-
 returns : tie.Need-returns
 returns c = search refused
-
-either-requires : tie.Need-either-requires
-either-requires c κs = search needs
-
-teid-unless-requires : tie.Need-teid-unless-requires
-teid-unless-requires c κs = search needs
-
-either-requires-2 : tie.Need-either-requires-2
-either-requires-2 c κs = search needs
-
-either-requires-3 : tie.Need-either-requires-3
-either-requires-3 c κs = search needs
-
-byte-under-requires : tie.Need-byte-under-requires
-byte-under-requires c κs = search needs
 
 returns-2 : tie.Need-returns-2
 returns-2 c = search done
@@ -63,12 +42,5 @@ pub build-spec : {M : Type 1} → statement M
 build-spec =
     tie.close
     (tie.spec
-    broken-requires
-    empty-requires
-    returns
-    either-requires
-    teid-unless-requires
-    either-requires-2
-    either-requires-3
-    byte-under-requires
-    returns-2)
+    (λ c κs. search needs) (λ c κs. search needs) returns (λ c κs. search needs) (λ c κs. search needs)
+    (λ c κs. search needs) (λ c κs. search needs) (λ c κs. search needs) returns-2)

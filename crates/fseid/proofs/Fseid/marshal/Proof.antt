@@ -5,7 +5,7 @@ use mathlib.Core.Bool.{false}
 use mathlib.Core.List.{List, [], _∷_}
 use lib.ListN.{length}
 use borrow.Author.Needs.{needs}
-use Rattle.octets.specs.Octets.{under, flagByte, bytesOf, bytesIf, ipv4Meaning, ipv6Meaning, put}
+use Rattle.octets.specs.Octets.{ifSet, flagByte, bigEndianBytes, bytesIf, ipv4Meaning, ipv6Meaning, put}
 use Rattle.octets.proofs.Laws.{flags-padded, Puts}
 use Rattle.kind.proofs.Cases.{no-room, all-put}
 use Rattle.kind.proofs.Endpoint.{form-length, form-row}
@@ -14,14 +14,14 @@ use Rattle.fseid.specs.Fseid.{meaning, wire}
 use Rattle.fseid.proofs.Fseid.marshal.Statement.{statement}
 use Rattle.fseid.proofs.Fseid.marshal.Tie as tie
 
-module _ (r : Fseid) (u4 u6 : ℕ) (e4 : u4 ≡ under (r .«ipv4_address» .given) 4) (e6 : u6 ≡ under (r .«ipv6_address» .given) 16) (l4 : length (r .«ipv4_address» .octets) ≡ 4) (l6 : length (r .«ipv6_address» .octets) ≡ 16) where
+module _ (r : Fseid) (u4 u6 : ℕ) (e4 : u4 ≡ ifSet (r .«ipv4_address» .given) 4) (e6 : u6 ≡ ifSet (r .«ipv6_address» .given) 16) (l4 : length (r .«ipv4_address» .octets) ≡ 4) (l6 : length (r .«ipv6_address» .octets) ≡ 16) where
   long : length (wire (meaning r)) ≡ 9 + u4 + u6
   unfolding wire meaning
   long = form-length (flagByte (r .v6 ∷ r .v4 ∷ [])) 8 (r .seid .0) (r .«ipv4_address») (r .«ipv6_address») u4 u6 e4 e6 l4 l6
 
   row : (f : ℕ) (d d1 d2 d3 d4 : List ℕ) → f ≡ flagByte (r .v6 ∷ r .v4 ∷ false ∷ false ∷ false ∷ false ∷ false ∷ false ∷ [])
       → d1 ≡ put d 0 (f ∷ [])
-      → d2 ≡ put d1 1 (bytesOf 8 (r .seid .0))
+      → d2 ≡ put d1 1 (bigEndianBytes 8 (r .seid .0))
       → d3 ≡ put d2 9 (bytesIf (ipv4Meaning (r .«ipv4_address»)))
       → d4 ≡ put d3 (9 + u4) (bytesIf (ipv6Meaning (r .«ipv6_address»)))
       → Puts d 0 (wire (meaning r)) d4
@@ -33,42 +33,12 @@ module _ (r : Fseid) (u4 u6 : ℕ) (e4 : u4 ≡ under (r .«ipv4_address» .give
 lengths : (c : tie.Start) → (length (c .args .self .«ipv4_address» .octets) ≡ 4) × (length (c .args .self .«ipv6_address» .octets) ≡ 16)
 lengths c = (search needs, search needs)
 
-under-requires : tie.Need-under-requires
-under-requires c κs = search needs
-
-add-end4 : tie.Need-add-end4
-add-end4 c = search needs
-
-under-requires-2 : tie.Need-under-requires-2
-under-requires-2 c κs = search needs
-
-add-end6 : tie.Need-add-end6
-add-end6 c = search needs
-
 returns : tie.Need-returns
 returns c =
     let u6 = c .before in
     let u4 = u6 .before in
     let (l4, l6) = lengths (u4 .before .before .before .before) in
-    no-room _ _ _ (long _ _ _ (u4 .under .ensures .0) (u6 .under2 .ensures .0) l4 l6) (c .if1 .taken)
-
-flag-byte-requires : tie.Need-flag-byte-requires
-flag-byte-requires c κs = search needs
-
-put-byte-requires : tie.Need-put-byte-requires
-put-byte-requires c κs = search needs
-
-put-number-requires : tie.Need-put-number-requires
-put-number-requires c κs = search needs
-
-put-ipv4-requires : tie.Need-put-ipv4-requires
-put-ipv4-requires c κs = search needs
-
-put-ipv6-requires : tie.Need-put-ipv6-requires
-put-ipv6-requires c κs = search needs
-
-same-length : tie.Need-same-length
-same-length c = search needs
+    no-room _ _ _ (long _ _ _ (u4 .if-set .ensures .0) (u6 .if-set2 .ensures .0) l4 l6) (c .if1 .taken)
 
 returns-2 : tie.Need-returns-2
 returns-2 c =
@@ -79,8 +49,8 @@ returns-2 c =
     let fl = pb .before .before in
     let u6 = fl .before .before in
     let u4 = u6 .before in
-    let e4 = u4 .under .ensures .0 in
-    let e6 = u6 .under2 .ensures .0 in
+    let e4 = u4 .if-set .ensures .0 in
+    let e6 = u6 .if-set2 .ensures .0 in
     let start = u4 .before .before .before .before in
     let r = start .args .self in
     let (l4, l6) = lengths start in
@@ -91,15 +61,6 @@ pub marshal-spec : {M : Type 1} → statement M
 marshal-spec =
     tie.close
     (tie.spec
-    under-requires
-    add-end4
-    under-requires-2
-    add-end6
-    returns
-    flag-byte-requires
-    put-byte-requires
-    put-number-requires
-    put-ipv4-requires
-    put-ipv6-requires
-    same-length
-    returns-2)
+    (λ c κs. search needs) (λ c. search needs) (λ c κs. search needs) (λ c. search needs) returns
+    (λ c κs. search needs) (λ c κs. search needs) (λ c κs. search needs) (λ c κs. search needs) (λ c κs. search needs)
+    (λ c. search needs) returns-2)

@@ -4,20 +4,21 @@ use native.Mathlib.Omega.{arith}
 use mathlib.Core.Path.{_≡_, refl, sym, ap, _∙_}
 use mathlib.Core.List.{List, [], _∷_, flatten}
 use lib.ListN.{length, length-append}
-use Rattle.octets.specs.Octets.{under, presence, bytesIf, numberIf, put}
+use Rattle.octets.specs.Octets.{ifSet, presence, bytesIf, numberIf, put}
 use Rattle.octets.proofs.Laws.{number-length, given-length, put-nil, Puts, ends, then}
 use Rattle.kind.proofs.Cases.{no-room, all-put}
-use Rattle.outer_header_creation.specs.declared.Sent.{Sent}
-use Rattle.outer_header_creation.specs.declared.Ends.{Ends}
+use Rattle.outer_header_creation.specs.declared.SentFields.{SentFields}
+use Rattle.outer_header_creation.specs.declared.FieldEnds.{FieldEnds}
 use Rattle.outer_header_creation.specs.declared.OuterHeaderCreation.{OuterHeaderCreation}
-use Rattle.outer_header_creation.specs.OuterHeaderCreation.{byteOf, asked, sends, endsOf, meaning, wire}
+use Rattle.outer_header_creation.specs.OuterHeaderCreation.{byteOf, asked, meaning, wire}
+use Rattle.outer_header_creation.specs.Steps.{sends, endsOf}
 use Rattle.outer_header_creation.proofs.Laws.{sent-given, sent-anyway}
 use borrow.Author.Needs.{needs}
 use Rattle.outer_header_creation.proofs.OuterHeaderCreation.marshal.Statement.{statement}
 use Rattle.outer_header_creation.proofs.OuterHeaderCreation.marshal.Tie as tie
 
 -- the eight pieces, from what the calls before them hand over
-module _ (r : OuterHeaderCreation) (teid port : ℕ) (w : Sent) where
+module _ (r : OuterHeaderCreation) (teid port : ℕ) (w : SentFields) where
   abbrev pieces : List (List ℕ)
   pieces =
       (byteOf (r .description) ∷ [])
@@ -30,7 +31,7 @@ module _ (r : OuterHeaderCreation) (teid port : ℕ) (w : Sent) where
       ∷ numberIf 3 (presence (w .stag) (r .stag .value))
       ∷ []
 
-  whole : teid ≡ under (r .teid .given) (r .teid .value .0) → port ≡ under (r .«port_number» .given) (r .«port_number» .value) → w ≡ sends r → flatten pieces ≡ wire (meaning r)
+  whole : teid ≡ ifSet (r .teid .given) (r .teid .value .0) → port ≡ ifSet (r .«port_number» .given) (r .«port_number» .value) → w ≡ sends r → flatten pieces ≡ wire (meaning r)
   unfolding wire meaning flatten
   whole e6 e7 q =
       let a = asked (r .description) in
@@ -46,7 +47,7 @@ module _ (r : OuterHeaderCreation) (teid port : ℕ) (w : Sent) where
         sent-given (numberIf 3) (unfold numberIf in refl) (a .stag) (r .stag .given) (r .stag .value),
       )
 
-  module _ (d : List ℕ) (e : Ends) (eq : e ≡ endsOf w) (l4 : length (r .«ipv4_address» .octets) ≡ 4) (l6 : length (r .«ipv6_address» .octets) ≡ 16) where
+  module _ (d : List ℕ) (e : FieldEnds) (eq : e ≡ endsOf w) (l4 : length (r .«ipv4_address» .octets) ≡ 4) (l6 : length (r .«ipv6_address» .octets) ≡ 16) where
     count : length (flatten pieces) ≡ e .stag
     unfolding endsOf flatten
     count =
@@ -59,7 +60,7 @@ module _ (r : OuterHeaderCreation) (teid port : ℕ) (w : Sent) where
           number-length (w .ctag) 3 (r .ctag .value),
           number-length (w .stag) 3 (r .stag .value),
         )
-        (omega (arith, ap (λ (x : Ends). x .stag) eq))
+        (omega (arith, ap (λ (x : FieldEnds). x .stag) eq))
 
     -- the puts, each behind the one before
     row : (b : ℕ) (d1 d2 d3 d4 d5 d6 d7 d8 : List ℕ)
@@ -75,12 +76,12 @@ module _ (r : OuterHeaderCreation) (teid port : ℕ) (w : Sent) where
         → Puts d 0 (flatten pieces) d8
     unfolding endsOf flatten
     row b d1 d2 d3 d4 d5 d6 d7 d8 q q1 q2 q3 q4 q5 q6 q7 q8 =
-        let e6 = ap (λ (x : Ends). x .teid) eq in
-        let e1 = ap (λ (x : Ends). x .ipv4) eq in
-        let e2 = ap (λ (x : Ends). x .ipv6) eq in
-        let e7 = ap (λ (x : Ends). x .port) eq in
-        let e8 = ap (λ (x : Ends). x .ctag) eq in
-        let e9 = ap (λ (x : Ends). x .stag) eq in
+        let e6 = ap (λ (x : FieldEnds). x .teid) eq in
+        let e1 = ap (λ (x : FieldEnds). x .ipv4) eq in
+        let e2 = ap (λ (x : FieldEnds). x .ipv6) eq in
+        let e7 = ap (λ (x : FieldEnds). x .port) eq in
+        let e8 = ap (λ (x : FieldEnds). x .ctag) eq in
+        let e9 = ap (λ (x : FieldEnds). x .stag) eq in
         then _ 1 (rw q at q1) refl
         (then _ 2 q2 refl
         (then _ (e .teid) q3 (omega (arith, number-length (w .teid) 4 teid))
@@ -92,7 +93,7 @@ module _ (r : OuterHeaderCreation) (teid port : ℕ) (w : Sent) where
         (ends (sym (put-nil d8 (e .stag)))))))))))
 
     -- how long the written form is, and that it is put so
-    module _ (tq : teid ≡ under (r .teid .given) (r .teid .value .0)) (pq : port ≡ under (r .«port_number» .given) (r .«port_number» .value)) (wq : w ≡ sends r) where
+    module _ (tq : teid ≡ ifSet (r .teid .given) (r .teid .value .0)) (pq : port ≡ ifSet (r .«port_number» .given) (r .«port_number» .value)) (wq : w ≡ sends r) where
       long : length (wire (meaning r)) ≡ e .stag
       long = ap length (sym (whole tq pq wq)) ∙ count
 
@@ -129,30 +130,6 @@ module _ (c : tie.After-slice-known9) where
   abbrev put-flags : tie.After-put-byte
   put-flags = put-spare .before .before .before .before
 
-cast-under : tie.Need-cast-under
-cast-under c = search needs
-
-under-requires : tie.Need-under-requires
-under-requires c κs = search needs
-
-cast-under-2 : tie.Need-cast-under-2
-cast-under-2 c = search needs
-
-under-requires-2 : tie.Need-under-requires-2
-under-requires-2 c κs = search needs
-
-cast-ctag : tie.Need-cast-ctag
-cast-ctag c = search needs
-
-cast-stag : tie.Need-cast-stag
-cast-stag c = search needs
-
-sends-requires : tie.Need-sends-requires
-sends-requires c κs = search needs
-
-ends-of-requires : tie.Need-ends-of-requires
-ends-of-requires c κs = search needs
-
 returns : tie.Need-returns
 returns c =
     let ends = c .before in
@@ -160,34 +137,7 @@ returns c =
     let port = sent .before .before in
     let teid = port .before in
     let (l4, l6) = lengths (teid .before .before) in
-    no-room _ _ _ (long _ _ _ _ (teid .before .before .args .out .now) _ (ends .ends-of .ensures .0) l4 l6 (teid .under .ensures .0) (port .under2 .ensures .0) (sent .sends .ensures)) (c .if1 .taken)
-
-byte-requires : tie.Need-byte-requires
-byte-requires c κs = search needs
-
-put-byte-requires : tie.Need-put-byte-requires
-put-byte-requires c κs = search needs
-
-put-byte-requires-2 : tie.Need-put-byte-requires-2
-put-byte-requires-2 c κs = search needs
-
-put-number-given-requires : tie.Need-put-number-given-requires
-put-number-given-requires c κs = search needs
-
-put-given-requires : tie.Need-put-given-requires
-put-given-requires c κs = search needs
-
-put-given-requires-2 : tie.Need-put-given-requires-2
-put-given-requires-2 c κs = search needs
-
-put-number-given-requires-2 : tie.Need-put-number-given-requires-2
-put-number-given-requires-2 c κs = search needs
-
-put-number-given-requires-3 : tie.Need-put-number-given-requires-3
-put-number-given-requires-3 c κs = search needs
-
-put-number-given-requires-4 : tie.Need-put-number-given-requires-4
-put-number-given-requires-4 c κs = search needs
+    no-room _ _ _ (long _ _ _ _ (teid .before .before .args .out .now) _ (ends .ends .ensures .0) l4 l6 (teid .if-set .ensures .0) (port .if-set2 .ensures .0) (sent .sends .ensures)) (c .if1 .taken)
 
 same-length : tie.Need-same-length
 same-length c =
@@ -204,10 +154,10 @@ returns-2 c =
     let r = start .args .t1 in
     let d = start .args .out .now in
     let (l4, l6) = lengths start in
-    let tq = teid .under .ensures .0 in
-    let pq = port .under2 .ensures .0 in
+    let tq = teid .if-set .ensures .0 in
+    let pq = port .if-set2 .ensures .0 in
     let wq = sent .sends .ensures in
-    let eq = ends .ends-of .ensures .0 in
+    let eq = ends .ends .ensures .0 in
     let fits = room .if1 .left in
     let all = row r _ _ _ d _ eq l4 l6 _ _ _ _ _ _ _ _ _ (put-flags c .before .byte .ensures) (put-flags c .put-byte .ensures) (put-spare c .put-byte2 .ensures) (put-teid c .put-number-given .ensures) (put-ipv4 c .put-given .ensures) (put-ipv6 c .put-given2 .ensures) (put-port c .put-number-given2 .ensures) (put-ctag c .put-number-given3 .ensures) (put-stag c .put-number-given4 .ensures) in
     all-put d _ _ (long r _ _ _ d _ eq l4 l6 tq pq wq) _ fits (put-so r _ _ _ d _ eq l4 l6 tq pq wq _ all)
@@ -216,23 +166,7 @@ pub marshal-spec : {M : Type 1} → statement M
 marshal-spec =
     tie.close
     (tie.spec
-    cast-under
-    under-requires
-    cast-under-2
-    under-requires-2
-    cast-ctag
-    cast-stag
-    sends-requires
-    ends-of-requires
-    returns
-    byte-requires
-    put-byte-requires
-    put-byte-requires-2
-    put-number-given-requires
-    put-given-requires
-    put-given-requires-2
-    put-number-given-requires-2
-    put-number-given-requires-3
-    put-number-given-requires-4
-    same-length
-    returns-2)
+    (λ c. search needs) (λ c κs. search needs) (λ c. search needs) (λ c κs. search needs) (λ c. search needs)
+    (λ c. search needs) (λ c κs. search needs) (λ c κs. search needs) returns (λ c κs. search needs)
+    (λ c κs. search needs) (λ c κs. search needs) (λ c κs. search needs) (λ c κs. search needs) (λ c κs. search needs)
+    (λ c κs. search needs) (λ c κs. search needs) (λ c κs. search needs) same-length returns-2)

@@ -5,21 +5,11 @@ use borrow.Author.Needs.{needs}
 use Rattle.outer_header_creation.proofs.OuterHeaderCreation.udp_ipv4.Statement.{statement}
 use Rattle.outer_header_creation.proofs.OuterHeaderCreation.udp_ipv4.Tie as tie
 
-udp-ipv4-requires : tie.Need-udp-ipv4-requires
-udp-ipv4-requires c κs = search needs
-
-new-requires : tie.Need-new-requires
-new-requires c κs = search needs
-
-new-requires-2 : tie.Need-new-requires-2
-new-requires-2 c κs = search needs
-
-untagged-requires : tie.Need-untagged-requires
-untagged-requires c κs = search needs
-
 returns : tie.Need-returns
 returns c = of-parts _ _ _ _ _ _ _ _ _ _ _ (c .untagged .ensures) (c .before .before .before .udp-ipv4 .ensures) refl (c .before .before .new .ensures) refl (c .before .new2 .ensures)
 
 pub udp-ipv4-spec : {M : Type 1} → statement M
 udp-ipv4-spec =
-    tie.close (tie.spec udp-ipv4-requires new-requires new-requires-2 untagged-requires returns)
+    tie.close
+    (tie.spec
+    (λ c κs. search needs) (λ c κs. search needs) (λ c κs. search needs) (λ c κs. search needs) returns)

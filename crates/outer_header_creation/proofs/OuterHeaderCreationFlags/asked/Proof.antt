@@ -16,24 +16,6 @@ each : (f : Flags) (t x4 v4 x6 v6 p : Bool)
     → record { teid = t; ipv4 = v4; ipv6 = v6; port = p; ctag = f .ctag; stag = f .stag } ≡ asked f
 each f t x4 v4 x6 v6 p e1 e2 e3 e4 e5 e6 = rw (e1, e3, e2, e5, e4, e6)
 
-either-requires : tie.Need-either-requires
-either-requires c κs = search needs
-
-either-requires-2 : tie.Need-either-requires-2
-either-requires-2 c κs = search needs
-
-either-requires-3 : tie.Need-either-requires-3
-either-requires-3 c κs = search needs
-
-either-requires-4 : tie.Need-either-requires-4
-either-requires-4 c κs = search needs
-
-either-requires-5 : tie.Need-either-requires-5
-either-requires-5 c κs = search needs
-
-either-requires-6 : tie.Need-either-requires-6
-either-requires-6 c κs = search needs
-
 returns : tie.Need-returns
 returns c = search each
 
@@ -41,10 +23,5 @@ pub asked-spec : {M : Type 1} → statement M
 asked-spec =
     tie.close
     (tie.spec
-    either-requires
-    either-requires-2
-    either-requires-3
-    either-requires-4
-    either-requires-5
-    either-requires-6
-    returns)
+    (λ c κs. search needs) (λ c κs. search needs) (λ c κs. search needs) (λ c κs. search needs) (λ c κs. search needs)
+    (λ c κs. search needs) returns)

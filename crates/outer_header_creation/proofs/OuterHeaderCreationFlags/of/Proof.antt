@@ -13,30 +13,6 @@ eight : (b : ℕ) (f0 f1 f2 f3 f4 f5 f6 f7 : Bool)
     → record { «gtpu_udp_ipv4» = f0; «gtpu_udp_ipv6» = f1; «udp_ipv4» = f2; «udp_ipv6» = f3; ipv4 = f4; ipv6 = f5; ctag = f6; stag = f7 } ≡ flagsOf b
 eight b f0 f1 f2 f3 f4 f5 f6 f7 e0 e1 e2 e3 e4 e5 e6 e7 = rw (e0, e1, e2, e3, e4, e5, e6, e7)
 
-bit-requires : tie.Need-bit-requires
-bit-requires c κs = search needs
-
-bit-requires-2 : tie.Need-bit-requires-2
-bit-requires-2 c κs = search needs
-
-bit-requires-3 : tie.Need-bit-requires-3
-bit-requires-3 c κs = search needs
-
-bit-requires-4 : tie.Need-bit-requires-4
-bit-requires-4 c κs = search needs
-
-bit-requires-5 : tie.Need-bit-requires-5
-bit-requires-5 c κs = search needs
-
-bit-requires-6 : tie.Need-bit-requires-6
-bit-requires-6 c κs = search needs
-
-bit-requires-7 : tie.Need-bit-requires-7
-bit-requires-7 c κs = search needs
-
-bit-requires-8 : tie.Need-bit-requires-8
-bit-requires-8 c κs = search needs
-
 returns : tie.Need-returns
 returns c = search eight
 
@@ -44,12 +20,5 @@ pub of-spec : {M : Type 1} → statement M
 of-spec =
     tie.close
     (tie.spec
-    bit-requires
-    bit-requires-2
-    bit-requires-3
-    bit-requires-4
-    bit-requires-5
-    bit-requires-6
-    bit-requires-7
-    bit-requires-8
-    returns)
+    (λ c κs. search needs) (λ c κs. search needs) (λ c κs. search needs) (λ c κs. search needs) (λ c κs. search needs)
+    (λ c κs. search needs) (λ c κs. search needs) (λ c κs. search needs) returns)

@@ -7,18 +7,6 @@ use borrow.Author.Needs.{needs}
 use Rattle.pfd_contents.proofs.PfdContents.domain_and_protocol.Statement.{statement}
 use Rattle.pfd_contents.proofs.PfdContents.domain_and_protocol.Tie as tie
 
-new-requires : tie.Need-new-requires
-new-requires c κs = search needs
-
-domain-name-requires : tie.Need-domain-name-requires
-domain-name-requires c κs = search needs
-
-domain-name-protocol-requires : tie.Need-domain-name-protocol-requires
-domain-name-protocol-requires c κs = search needs
-
-build-requires : tie.Need-build-requires
-build-requires c κs = search needs
-
 returns : tie.Need-returns
 returns c =
     let a = c .before .before .before .before .before .args in
@@ -28,8 +16,4 @@ pub domain-and-protocol-spec : {M : Type 1} → statement M
 domain-and-protocol-spec =
     tie.close
     (tie.spec
-    new-requires
-    domain-name-requires
-    domain-name-protocol-requires
-    build-requires
-    returns)
+    (λ c κs. search needs) (λ c κs. search needs) (λ c κs. search needs) (λ c κs. search needs) returns)

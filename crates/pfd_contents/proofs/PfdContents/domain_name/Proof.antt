@@ -7,19 +7,13 @@ use borrow.Author.Needs.{needs}
 use Rattle.pfd_contents.proofs.PfdContents.domain_name.Statement.{statement}
 use Rattle.pfd_contents.proofs.PfdContents.domain_name.Tie as tie
 
-new-requires : tie.Need-new-requires
-new-requires c κs = search needs
-
-domain-name-requires : tie.Need-domain-name-requires
-domain-name-requires c κs = search needs
-
-build-requires : tie.Need-build-requires
-build-requires c κs = search needs
-
 returns : tie.Need-returns
 returns c =
     let a = c .before .before .before .before .args in
     set-one (λ (b : PfdContentsBuilder). withDomain b (textOf (a .place) (a .len))) _ _ _ _ (c .before .before .new .ensures) (c .before .domain-name .ensures) (c .build .ensures)
 
 pub domain-name-spec : {M : Type 1} → statement M
-domain-name-spec = tie.close (tie.spec new-requires domain-name-requires build-requires returns)
+domain-name-spec =
+    tie.close
+    (tie.spec
+    (λ c κs. search needs) (λ c κs. search needs) (λ c κs. search needs) returns)

@@ -7,18 +7,6 @@ use borrow.Author.Needs.{needs}
 use Rattle.pfd_contents.proofs.PfdContents.flow_and_url.Statement.{statement}
 use Rattle.pfd_contents.proofs.PfdContents.flow_and_url.Tie as tie
 
-new-requires : tie.Need-new-requires
-new-requires c κs = search needs
-
-flow-description-requires : tie.Need-flow-description-requires
-flow-description-requires c κs = search needs
-
-url-requires : tie.Need-url-requires
-url-requires c κs = search needs
-
-build-requires : tie.Need-build-requires
-build-requires c κs = search needs
-
 returns : tie.Need-returns
 returns c =
     let a = c .before .before .before .before .before .args in
@@ -26,4 +14,6 @@ returns c =
 
 pub flow-and-url-spec : {M : Type 1} → statement M
 flow-and-url-spec =
-    tie.close (tie.spec new-requires flow-description-requires url-requires build-requires returns)
+    tie.close
+    (tie.spec
+    (λ c κs. search needs) (λ c κs. search needs) (λ c κs. search needs) (λ c κs. search needs) returns)

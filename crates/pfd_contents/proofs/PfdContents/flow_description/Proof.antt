@@ -7,15 +7,6 @@ use borrow.Author.Needs.{needs}
 use Rattle.pfd_contents.proofs.PfdContents.flow_description.Statement.{statement}
 use Rattle.pfd_contents.proofs.PfdContents.flow_description.Tie as tie
 
-new-requires : tie.Need-new-requires
-new-requires c κs = search needs
-
-flow-description-requires : tie.Need-flow-description-requires
-flow-description-requires c κs = search needs
-
-build-requires : tie.Need-build-requires
-build-requires c κs = search needs
-
 returns : tie.Need-returns
 returns c =
     let a = c .before .before .before .before .args in
@@ -23,4 +14,6 @@ returns c =
 
 pub flow-description-spec : {M : Type 1} → statement M
 flow-description-spec =
-    tie.close (tie.spec new-requires flow-description-requires build-requires returns)
+    tie.close
+    (tie.spec
+    (λ c κs. search needs) (λ c κs. search needs) (λ c κs. search needs) returns)

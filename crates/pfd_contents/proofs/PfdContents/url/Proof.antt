@@ -7,19 +7,13 @@ use borrow.Author.Needs.{needs}
 use Rattle.pfd_contents.proofs.PfdContents.url.Statement.{statement}
 use Rattle.pfd_contents.proofs.PfdContents.url.Tie as tie
 
-new-requires : tie.Need-new-requires
-new-requires c κs = search needs
-
-url-requires : tie.Need-url-requires
-url-requires c κs = search needs
-
-build-requires : tie.Need-build-requires
-build-requires c κs = search needs
-
 returns : tie.Need-returns
 returns c =
     let a = c .before .before .before .before .args in
     set-one (λ (b : PfdContentsBuilder). withUrl b (textOf (a .place) (a .len))) _ _ _ _ (c .before .before .new .ensures) (c .before .url .ensures) (c .build .ensures)
 
 pub url-spec : {M : Type 1} → statement M
-url-spec = tie.close (tie.spec new-requires url-requires build-requires returns)
+url-spec =
+    tie.close
+    (tie.spec
+    (λ c κs. search needs) (λ c κs. search needs) (λ c κs. search needs) returns)

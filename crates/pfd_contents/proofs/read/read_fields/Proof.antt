@@ -1,50 +1,13 @@
--- `pfd_contents::read::read_fields` meets its contract: the row of the eight steps.
+-- `pfd_contents::read::read_fields` meets its contract: the row of the eight steps, and how the walk ended.
 use mathlib.Core.Path.{_∙_}
-use Rattle.pfd_contents.proofs.Chain.{fields-read}
+use Rattle.pfd_contents.proofs.Returns.{Walked, walked, all-taken, stopped}
 use borrow.Author.Needs.{needs}
 use Rattle.pfd_contents.proofs.read.read_fields.Statement.{statement}
 use Rattle.pfd_contents.proofs.read.read_fields.Tie as tie
 
-bit-requires : tie.Need-bit-requires
-bit-requires c κs = search needs
-
-bit-requires-2 : tie.Need-bit-requires-2
-bit-requires-2 c κs = search needs
-
-read-requires : tie.Need-read-requires
-read-requires c κs = search needs
-
-read-requires-2 : tie.Need-read-requires-2
-read-requires-2 c κs = search needs
-
-read-requires-3 : tie.Need-read-requires-3
-read-requires-3 c κs = search needs
-
-read-requires-4 : tie.Need-read-requires-4
-read-requires-4 c κs = search needs
-
-read-requires-5 : tie.Need-read-requires-5
-read-requires-5 c κs = search needs
-
-either-requires : tie.Need-either-requires
-either-requires c κs = search needs
-
-read-requires-6 : tie.Need-read-requires-6
-read-requires-6 c κs = search needs
-
-read-requires-7 : tie.Need-read-requires-7
-read-requires-7 c κs = search needs
-
-read-requires-8 : tie.Need-read-requires-8
-read-requires-8 c κs = search needs
-
-finish-requires : tie.Need-finish-requires
-finish-requires c κs = search needs
-
-returns : tie.Need-returns
-returns c =
-    let c₈ = c .before .before .before .before .before .before .before .before .before in
-    let c₇ = c₈ .before in
+walk : (c : tie.After-read8) → Walked (c .before .before .before .before .before .before .before .before .before .before .before .before .args .payload .now) (c .before .before .before .before .before .before .before .before .before .before .before .before .args .flags) (c .read8 .result .walk)
+walk c =
+    let c₇ = c .before in
     let c₆ = c₇ .before in
     let e = c₆ .before in
     let c₅ = e .before in
@@ -54,25 +17,23 @@ returns c =
     let c₁ = c₂ .before in
     let n = c₁ .before in
     let u = n .before in
-    c .finish .ensures
-    ∙ fields-read _ _ (u .bit .ensures) (n .bit2 .ensures) (e .either .ensures)
-    (c₁ .read .ensures) (c₂ .read2 .ensures) (c₃ .read3 .ensures) (c₄ .read4 .ensures) (c₅ .read5 .ensures)
-    (c₆ .read6 .ensures) (c₇ .read7 .ensures) (c₈ .read8 .ensures)
+    record {
+      taken = _;
+      is = walked _ _ (u .bit .ensures) (n .bit2 .ensures) (e .either .ensures) (c₁ .read .ensures) (c₂ .read2 .ensures) (c₃ .read3 .ensures) (c₄ .read4 .ensures) (c₅ .read5 .ensures) (c₆ .read6 .ensures) (c₇ .read7 .ensures) (c .read8 .ensures);
+    }
+
+returns : tie.Need-returns
+unfolding walk
+returns c = all-taken (walk (c .before .before .before .before .before .before .before .before .before .before .before)) (c .before .walk .given .1)
+
+returns-2 : tie.Need-returns-2
+returns-2 c = c .refused .ensures ∙ stopped (walk (c .before .before .before .before .before .before .before .before .before .before .before .before .before)) (c .before .before .before .walk2 .given .1) (c .before .answer .ensures)
 
 pub read-fields-spec : {M : Type 1} → statement M
 read-fields-spec =
     tie.close
     (tie.spec
-    bit-requires
-    bit-requires-2
-    read-requires
-    read-requires-2
-    read-requires-3
-    read-requires-4
-    read-requires-5
-    either-requires
-    read-requires-6
-    read-requires-7
-    read-requires-8
-    finish-requires
-    returns)
+    (λ c κs. search needs) (λ c κs. search needs) (λ c κs. search needs) (λ c κs. search needs) (λ c κs. search needs)
+    (λ c κs. search needs) (λ c κs. search needs) (λ c κs. search needs) (λ c κs. search needs) (λ c κs. search needs)
+    (λ c κs. search needs) (λ c. search needs) (λ c. search needs) (λ c κs. search needs) (λ c κs. search needs)
+    returns returns-2)

@@ -9,4 +9,7 @@ unfolding refused
 returns c = search needs
 
 pub refused-spec : {M : Type 1} → statement M
-refused-spec = tie.close (tie.spec returns)
+refused-spec =
+    tie.close
+    (tie.spec
+    returns)

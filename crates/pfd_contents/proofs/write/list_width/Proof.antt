@@ -4,11 +4,11 @@ use borrow.Author.Needs.{needs}
 use Rattle.pfd_contents.proofs.write.list_width.Statement.{statement}
 use Rattle.pfd_contents.proofs.write.list_width.Tie as tie
 
-part-requires : tie.Need-part-requires
-part-requires c κs = search needs
-
 returns : tie.Need-returns
 returns c = (search list-width, search list-small)
 
 pub list-width-spec : {M : Type 1} → statement M
-list-width-spec = tie.close (tie.spec part-requires returns)
+list-width-spec =
+    tie.close
+    (tie.spec
+    (λ c κs. search needs) returns)

@@ -8,14 +8,11 @@ use Rattle.pfd_contents.proofs.write.text_width.Tie as tie
 returns : tie.Need-returns
 returns c = (search none-width, omega arith)
 
-part-requires : tie.Need-part-requires
-part-requires c κs = search needs
-
-add-result : tie.Need-add-result
-add-result c = search needs
-
 returns-2 : tie.Need-returns-2
 returns-2 c = (search text-width, search text-small)
 
 pub text-width-spec : {M : Type 1} → statement M
-text-width-spec = tie.close (tie.spec returns part-requires add-result returns-2)
+text-width-spec =
+    tie.close
+    (tie.spec
+    returns (λ c κs. search needs) (λ c. search needs) returns-2)

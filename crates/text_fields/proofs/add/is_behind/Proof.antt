@@ -4,9 +4,6 @@ use borrow.Author.Needs.{needs}
 use Rattle.text_fields.proofs.add.is_behind.Statement.{statement}
 use Rattle.text_fields.proofs.add.is_behind.Tie as tie
 
-is-empty-requires : tie.Need-is-empty-requires
-is-empty-requires c κs = search needs
-
 returns : tie.Need-returns
 returns c = search behind-none
 
@@ -17,4 +14,7 @@ returns-3 : tie.Need-returns-3
 returns-3 c = search behind-run
 
 pub is-behind-spec : {M : Type 1} → statement M
-is-behind-spec = tie.close (tie.spec is-empty-requires returns returns-2 returns-3)
+is-behind-spec =
+    tie.close
+    (tie.spec
+    (λ c κs. search needs) returns returns-2 returns-3)

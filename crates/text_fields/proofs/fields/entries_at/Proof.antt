@@ -17,28 +17,13 @@ abbrev μ-loop : tie.MeasureT-loop
 loop-holds : tie.Need-loop-holds Inv-loop μ-loop
 loop-holds c = (search needs, ap (λ (n : ℕ). entries n (c .before .args .s .now) (c .before .args .at) 0) (omega arith))
 
-field-at-requires : tie.Need-field-at-requires Inv-loop μ-loop
-field-at-requires c κs = search needs
-
-enum-told : tie.Need-enum-told Inv-loop μ-loop
-enum-told c = search needs
-
 returns : tie.Need-returns Inv-loop μ-loop
 returns c =
     let l = c .before .before .before .before .loop in
     stop _ _ _ _ (c .before .before .before .loop-test .taken) (l .inv .1) (c .before .before .field-at .ensures) (c .enum-told .given .1)
 
-enum-known-place : tie.Need-enum-known-place Inv-loop μ-loop
-enum-known-place c = search needs
-
 add-next : tie.Need-add-next Inv-loop μ-loop
 add-next c = omega (arith, whole-end _ _ (c .before .before .before .field-at .ensures) (c .before .place .given .1))
-
-add-count : tie.Need-add-count Inv-loop μ-loop
-add-count c = search needs
-
-loop-less : tie.Need-loop-less Inv-loop μ-loop
-loop-less c = search needs
 
 loop-again : tie.Need-loop-again Inv-loop μ-loop
 loop-again c =
@@ -46,9 +31,6 @@ loop-again c =
       omega arith,
       go-on _ _ _ _ (c .before .before .before .before .loop-test .taken) (l .inv .1) (c .before .before .before .field-at .ensures) (c .before .place .given .1),
     )
-
-enum-known-fault : tie.Need-enum-known-fault Inv-loop μ-loop
-enum-known-fault c = search needs
 
 returns-2 : tie.Need-returns-2 Inv-loop μ-loop
 returns-2 c =
@@ -62,17 +44,5 @@ pub entries-at-spec : {M : Type 1} → statement M
 entries-at-spec =
     tie.close
     (tie.spec
-    Inv-loop
-    μ-loop
-    loop-holds
-    field-at-requires
-    enum-told
-    returns
-    enum-known-place
-    add-next
-    add-count
-    loop-less
-    loop-again
-    enum-known-fault
-    returns-2
-    returns-3)
+    Inv-loop μ-loop loop-holds (λ c κs. search needs) (λ c. search needs) returns (λ c. search needs) add-next
+    (λ c. search needs) (λ c. search needs) loop-again (λ c. search needs) returns-2 returns-3)

@@ -5,14 +5,8 @@ use borrow.Author.Needs.{needs}
 use Rattle.text_fields.proofs.fields.field_at.Statement.{statement}
 use Rattle.text_fields.proofs.fields.field_at.Tie as tie
 
-part-requires : tie.Need-part-requires
-part-requires c κs = search needs
-
 returns : tie.Need-returns
 returns c = absent _ _ (no-head _ _ (c .before .part .ensures) (c .if1 .taken))
-
-number-requires : tie.Need-number-requires
-number-requires c κs = search needs
 
 add-place : tie.Need-add-place
 add-place c =
@@ -32,21 +26,6 @@ returns-2 c =
     let p = n .before .before .part .ensures in
     past _ _ (length-is (a .s .now) (a .at) p (n .number .ensures .0)) (head (a .s .now) (a .at) p (n .before .if1 .left)) (c .if2 .taken)
 
-sub-well-formed : tie.Need-sub-well-formed
-sub-well-formed c = search needs
-
-part-well-formed-start : tie.Need-part-well-formed-start
-part-well-formed-start c = search needs
-
-part-well-formed-end : tie.Need-part-well-formed-end
-part-well-formed-end c = search needs
-
-well-formed-requires : tie.Need-well-formed-requires
-well-formed-requires c κs = search needs
-
-add-t16 : tie.Need-add-t16
-add-t16 c = search needs
-
 returns-3 : tie.Need-returns-3
 returns-3 c =
     let n = c .before .before .before .before in
@@ -65,16 +44,5 @@ pub field-at-spec : {M : Type 1} → statement M
 field-at-spec =
     tie.close
     (tie.spec
-    part-requires
-    returns
-    number-requires
-    add-place
-    add-end
-    returns-2
-    sub-well-formed
-    part-well-formed-start
-    part-well-formed-end
-    well-formed-requires
-    add-t16
-    returns-3
-    returns-4)
+    (λ c κs. search needs) returns (λ c κs. search needs) add-place add-end returns-2 (λ c. search needs)
+    (λ c. search needs) (λ c. search needs) (λ c κs. search needs) (λ c. search needs) returns-3 returns-4)

@@ -6,7 +6,7 @@ use mathlib.Core.Bool.{Bool, false}
 use mathlib.Core.List.{List, [], _∷_, _++_}
 use lib.ListN.{length, length-append}
 use borrow.Author.Needs.{needs}
-use Rattle.octets.specs.Octets.{under, flagByte, bytesIf, numberIf, ipv4Meaning, ipv6Meaning, u8Meaning, put}
+use Rattle.octets.specs.Octets.{ifSet, flagByte, bytesIf, numberIf, ipv4Meaning, ipv6Meaning, u8Meaning, put}
 use Rattle.octets.proofs.Laws.{flags-padded, given-length, number-length, Puts, ends, then}
 use Rattle.kind.proofs.Cases.{no-room, all-put}
 use Rattle.ue_ip_address.specs.declared.UeIpAddress.{UeIpAddress}
@@ -24,10 +24,10 @@ record Widths (r : UeIpAddress) (u4 u6 ub up : ℕ) : Type 0 where
 widths : (r : UeIpAddress) (u4 u6 ub up : ℕ)
     → length (r .«ipv4_address» .octets) ≡ 4
     → length (r .«ipv6_address» .octets) ≡ 16
-    → u4 ≡ under (r .«ipv4_address» .given) 4
-    → u6 ≡ under (r .«ipv6_address» .given) 16
-    → ub ≡ under (r .«ipv6_prefix_delegation_bits» .given) 1
-    → up ≡ under (r .«ipv6_prefix_length» .given) 1
+    → u4 ≡ ifSet (r .«ipv4_address» .given) 4
+    → u6 ≡ ifSet (r .«ipv6_address» .given) 16
+    → ub ≡ ifSet (r .«ipv6_prefix_delegation_bits» .given) 1
+    → up ≡ ifSet (r .«ipv6_prefix_length» .given) 1
     → Widths r u4 u6 ub up
 widths r u4 u6 ub up l4 l6 e4 e6 eb ep =
     record {
@@ -67,70 +67,19 @@ lengths : (c : tie.Start) → (length (c .args .self .«ipv4_address» .octets) 
 lengths c = (search needs, search needs)
 
 -- what is known of the widths where all the ends are
-widened : (c : tie.After-under4) →
-    Widths (c .before .before .before .before .before .before .before .before .before .args .self) (c .before .before .before .under .result) (c .before .before .under2 .result) (c .before .under3 .result) (c .under4 .result)
+widened : (c : tie.After-if-set4) →
+    Widths (c .before .before .before .before .before .before .before .before .before .args .self) (c .before .before .before .if-set .result) (c .before .before .if-set2 .result) (c .before .if-set3 .result) (c .if-set4 .result)
 widened c =
     let u3 = c .before in
     let u2 = u3 .before in
     let u1 = u2 .before in
     let start = u1 .before .before .before .before .before .before in
     let (l4, l6) = lengths start in
-    widths (start .args .self) _ _ _ _ l4 l6 (u1 .under .ensures .0) (u2 .under2 .ensures .0) (u3 .under3 .ensures .0) (c .under4 .ensures .0)
-
-under-requires : tie.Need-under-requires
-under-requires c κs = search needs
-
-add-end4 : tie.Need-add-end4
-add-end4 c = search needs
-
-under-requires-2 : tie.Need-under-requires-2
-under-requires-2 c κs = search needs
-
-add-end6 : tie.Need-add-end6
-add-end6 c = search needs
-
-under-requires-3 : tie.Need-under-requires-3
-under-requires-3 c κs = search needs
-
-add-end-bits : tie.Need-add-end-bits
-add-end-bits c = search needs
-
-under-requires-4 : tie.Need-under-requires-4
-under-requires-4 c κs = search needs
-
-add-end : tie.Need-add-end
-add-end c = search needs
+    widths (start .args .self) _ _ _ _ l4 l6 (u1 .if-set .ensures .0) (u2 .if-set2 .ensures .0) (u3 .if-set3 .ensures .0) (c .if-set4 .ensures .0)
 
 returns : tie.Need-returns
 returns c =
     no-room _ _ _ (long _ _ _ _ _ (widened (c .before))) (c .if1 .taken)
-
-flag-byte-requires : tie.Need-flag-byte-requires
-flag-byte-requires c κs = search needs
-
-put-byte-requires : tie.Need-put-byte-requires
-put-byte-requires c κs = search needs
-
-put-ipv4-requires : tie.Need-put-ipv4-requires
-put-ipv4-requires c κs = search needs
-
-put-ipv6-requires : tie.Need-put-ipv6-requires
-put-ipv6-requires c κs = search needs
-
-cast-put-number-given : tie.Need-cast-put-number-given
-cast-put-number-given c = search needs
-
-put-number-given-requires : tie.Need-put-number-given-requires
-put-number-given-requires c κs = search needs
-
-cast-put-number-given-2 : tie.Need-cast-put-number-given-2
-cast-put-number-given-2 c = search needs
-
-put-number-given-requires-2 : tie.Need-put-number-given-requires-2
-put-number-given-requires-2 c κs = search needs
-
-same-length : tie.Need-same-length
-same-length c = search needs
 
 returns-2 : tie.Need-returns-2
 returns-2 c =
@@ -150,22 +99,7 @@ pub marshal-spec : {M : Type 1} → statement M
 marshal-spec =
     tie.close
     (tie.spec
-    under-requires
-    add-end4
-    under-requires-2
-    add-end6
-    under-requires-3
-    add-end-bits
-    under-requires-4
-    add-end
-    returns
-    flag-byte-requires
-    put-byte-requires
-    put-ipv4-requires
-    put-ipv6-requires
-    cast-put-number-given
-    put-number-given-requires
-    cast-put-number-given-2
-    put-number-given-requires-2
-    same-length
-    returns-2)
+    (λ c κs. search needs) (λ c. search needs) (λ c κs. search needs) (λ c. search needs) (λ c κs. search needs)
+    (λ c. search needs) (λ c κs. search needs) (λ c. search needs) returns (λ c κs. search needs)
+    (λ c κs. search needs) (λ c κs. search needs) (λ c κs. search needs) (λ c. search needs) (λ c κs. search needs)
+    (λ c. search needs) (λ c κs. search needs) (λ c. search needs) returns-2)

@@ -5,9 +5,6 @@ use borrow.Author.Needs.{needs}
 use Rattle.pfd_contents.proofs.build.PfdContentsBuilder.add_additional_domain_name_and_protocol.Statement.{statement}
 use Rattle.pfd_contents.proofs.build.PfdContentsBuilder.add_additional_domain_name_and_protocol.Tie as tie
 
-with-entry-requires : tie.Need-with-entry-requires
-with-entry-requires c κs = search needs
-
 additional-domain-names-and-protocols-requires :
     tie.Need-additional-domain-names-and-protocols-requires
 additional-domain-names-and-protocols-requires c κs = search needs
@@ -17,4 +14,6 @@ returns c = add-to (withNames (c .before .before .before .before .before .args .
 
 pub add-additional-domain-name-and-protocol-spec : {M : Type 1} → statement M
 add-additional-domain-name-and-protocol-spec =
-    tie.close (tie.spec with-entry-requires additional-domain-names-and-protocols-requires returns)
+    tie.close
+    (tie.spec
+    (λ c κs. search needs) additional-domain-names-and-protocols-requires returns)

@@ -5,14 +5,11 @@ use borrow.Author.Needs.{needs}
 use Rattle.pfd_contents.proofs.build.PfdContentsBuilder.add_additional_url.Statement.{statement}
 use Rattle.pfd_contents.proofs.build.PfdContentsBuilder.add_additional_url.Tie as tie
 
-with-entry-requires : tie.Need-with-entry-requires
-with-entry-requires c κs = search needs
-
-additional-urls-requires : tie.Need-additional-urls-requires
-additional-urls-requires c κs = search needs
-
 returns : tie.Need-returns
 returns c = add-to (withUrls (c .before .before .before .before .before .args .self)) _ _ _ (c .before .before .with-entry .ensures) (c .additional-urls .ensures)
 
 pub add-additional-url-spec : {M : Type 1} → statement M
-add-additional-url-spec = tie.close (tie.spec with-entry-requires additional-urls-requires returns)
+add-additional-url-spec =
+    tie.close
+    (tie.spec
+    (λ c κs. search needs) (λ c κs. search needs) returns)

@@ -4,26 +4,11 @@ use borrow.Author.Needs.{needs}
 use Rattle.pfd_contents.proofs.build.PfdContentsBuilder.build.Statement.{statement}
 use Rattle.pfd_contents.proofs.build.PfdContentsBuilder.build.Tie as tie
 
-unbuilt-requires : tie.Need-unbuilt-requires
-unbuilt-requires c κs = search needs
-
 returns : tie.Need-returns
 returns c = search build-long
 
-with-flags-requires : tie.Need-with-flags-requires
-with-flags-requires c κs = search needs
-
-bad-field-requires : tie.Need-bad-field-requires
-bad-field-requires c κs = search needs
-
-unbuilt-requires-2 : tie.Need-unbuilt-requires-2
-unbuilt-requires-2 c κs = search needs
-
 returns-2 : tie.Need-returns-2
 returns-2 c = search build-bad
-
-unbuilt-requires-3 : tie.Need-unbuilt-requires-3
-unbuilt-requires-3 c κs = search needs
 
 returns-3 : tie.Need-returns-3
 returns-3 c = search build-none
@@ -35,12 +20,5 @@ pub build-spec : {M : Type 1} → statement M
 build-spec =
     tie.close
     (tie.spec
-    unbuilt-requires
-    returns
-    with-flags-requires
-    bad-field-requires
-    unbuilt-requires-2
-    returns-2
-    unbuilt-requires-3
-    returns-3
-    returns-4)
+    (λ c κs. search needs) returns (λ c κs. search needs) (λ c κs. search needs) (λ c κs. search needs) returns-2
+    (λ c κs. search needs) returns-3 returns-4)

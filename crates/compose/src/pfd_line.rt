@@ -1,0 +1,51 @@
+// PFD Contents: the rows of its record lines.
+use answer::Answer;
+use details::written;
+use pfd_contents::PfdContentsBuilt;
+use record_calls::pfd_calls;
+use record_words::calls;
+use record_words::keys;
+use record_words::seen::Seen;
+use record_words::seen::Values;
+
+fn put_built(
+    out: &mut [u8],
+    at: usize,
+    built: PfdContentsBuilt,
+    texts: &[u8],
+    room: usize,
+    is_raw: bool,
+    is_brief: bool,
+) -> usize {
+    let answer = built.answer;
+    if answer.number() != 0 {
+        return details::put_unmade(out, at, answer);
+    }
+    written::put_pfd_contents(out, at, built.record, texts, room, is_raw, is_brief)
+}
+
+// Texts that are longer than the buffer are refused here, as they would be there.
+pub(crate) fn put(
+    out: &mut [u8],
+    at: usize,
+    line: &[u8],
+    call: usize,
+    seen: Seen,
+    values: &Values,
+    texts: &mut [u8],
+) -> usize {
+    let mut starts = *values;
+    let sum = pfd_calls::to_starts(&mut starts);
+    let len = pfd_calls::slice_len(call, sum, values[keys::SLICE]);
+    if texts.len() < len {
+        return details::put_unmade(out, at, Answer::InputTooLong { length: len });
+    }
+    let is_brief = seen.has(keys::BRIEF);
+    if call == calls::P_READ {
+        return details::put_pfd_contents_payload(out, at, texts::part(texts, 0, len), is_brief);
+    }
+    let built = pfd_calls::built(line, call, values[keys::FLAGS], texts, len, &mut starts);
+    let is_raw = calls::has_places(call);
+    let slice = texts::part(texts, 0, len);
+    put_built(out, at, built, slice, values[keys::ROOM], is_raw, is_brief)
+}

@@ -1,0 +1,86 @@
+-- What `read` says at each return of a reader, from the tests on the way to it. No contract cites this file.
+use Prim.Native.Nat.{ℕ, zero, suc, _+_, _-_, _≤_, _<_}
+use native.Mathlib.Omega.{arith}
+use mathlib.Core.Path.{_≡_, refl, ap, _∙_}
+use mathlib.Core.List.{List}
+use lib.ListN.{length, getD, drop, take, length-drop}
+use lib.Seq.{take-all}
+use borrow.Author.Tests.{le-leb, lt-leb, eq-eqb, ne-eqb}
+use Rattle.answer.specs.declared.Answer.the-variants.{Short, NodeType, NotUtf8, InputTooLong}
+use Rattle.octets.specs.declared.MaybeIpv4.{MaybeIpv4}
+use Rattle.octets.specs.declared.MaybeIpv6.{MaybeIpv6}
+use Rattle.octets.specs.Octets.{field, ipv4Of, ipv6Of}
+use Rattle.octets.proofs.Laws.{length-field, ipv4-octets, ipv6-octets}
+use Rattle.text.specs.Utf8.{goodLen}
+use Rattle.node_id.specs.declared.NodeId.{NodeId}
+use Rattle.node_id.specs.declared.NodeIdRead.{NodeIdRead}
+use Rattle.node_id.specs.NodeId.{ofIpv4, ofIpv6, named, refused, accepted, readAddress, readIpv4, readIpv6, readFqdn, byType, read}
+
+-- ---- an address, of any width
+module _ (s : List ℕ) (number width : ℕ) (make : List ℕ → NodeId) where
+  pub cut-address : (r : NodeIdRead) → length s < suc width → r ≡ refused (Short number (suc width) (length s)) → r ≡ readAddress number width make s
+  unfolding readAddress
+  cut-address r h q = rw (lt-leb (suc width) (length s) h) q
+
+  pub whole-address : {a : List ℕ} {x : NodeId} → suc width ≤ length s → a ≡ field s 1 width → x ≡ make a → accepted (suc width) x ≡ readAddress number width make s
+  unfolding readAddress
+  whole-address h p q = rw (le-leb (suc width) (length s) h, q, p)
+
+module _ (s : List ℕ) (x : NodeId) where
+  pub whole-ipv4 : (a : MaybeIpv4) → 5 ≤ length s → a ≡ ipv4Of (field s 1 4) → x ≡ ofIpv4 (a .octets) → accepted 5 x ≡ readIpv4 s
+  whole-ipv4 a h p q = whole-address s 1 4 ofIpv4 h (rw (p, ipv4-octets (field s 1 4) (length-field 1 4 s h))) q
+
+  pub whole-ipv6 : (a : MaybeIpv6) → 17 ≤ length s → a ≡ ipv6Of (field s 1 16) → x ≡ ofIpv6 (a .octets) → accepted 17 x ≡ readIpv6 s
+  whole-ipv6 a h p q = whole-address s 2 16 ofIpv6 h (rw (p, ipv6-octets (field s 1 16) (length-field 1 16 s h))) q
+
+-- ---- a name, of which g bytes are well formed
+module _ (s : List ℕ) (h : 0 < length s) (g : ℕ) (e : g ≡ goodLen (take (length s - 1) (drop 1 s))) where
+  -- the part behind the type is all of it
+  all-behind : g ≡ goodLen (drop 1 s)
+  all-behind = e ∙ ap goodLen (take-all (length s - 1) (drop 1 s) (omega (arith, length-drop 1 s)))
+
+  pub garbled-name : (r : NodeIdRead) → (g ≡ length s - 1 → ⊥) → r ≡ refused (NotUtf8 (1 + g)) → r ≡ readFqdn s
+  unfolding readFqdn
+  garbled-name r n q = rw (← all-behind, ne-eqb (1 + g) (length s) (λ f. n (omega arith))) q
+
+  pub whole-name : (x : NodeId) → g ≡ length s - 1 → x ≡ named 1 g → accepted (length s) x ≡ readFqdn s
+  unfolding readFqdn
+  whole-name x n q = rw (← all-behind, eq-eqb (1 + g) (length s) (omega arith), q)
+
+-- ---- by the length, then by the type
+module _ (s : List ℕ) (r : NodeIdRead) where
+  pub too-long : 65535 < length s → r ≡ refused (InputTooLong (length s)) → r ≡ read s
+  unfolding read
+  too-long h q = rw (lt-leb _ _ h) q
+
+  module _ (f : length s ≤ 65535) where
+    pub empty : length s < 1 → r ≡ refused (Short 0 1 (length s)) → r ≡ read s
+    unfolding read
+    empty h q = rw (le-leb _ _ f, lt-leb _ _ h) q
+
+    module _ (h : 1 ≤ length s) where
+      pub typed : r ≡ byType (getD s 0 0) s → r ≡ read s
+      unfolding read
+      typed q = rw (le-leb _ _ f, le-leb _ _ h) q
+
+      pub by-ipv4 : getD s 0 0 ≡ 0 → r ≡ readIpv4 s → r ≡ read s
+      unfolding byType
+      by-ipv4 e q = typed (rw e q)
+
+      pub by-ipv6 : getD s 0 0 ≡ 1 → r ≡ readIpv6 s → r ≡ read s
+      unfolding byType
+      by-ipv6 e q = typed (rw e q)
+
+      pub by-name : getD s 0 0 ≡ 2 → r ≡ readFqdn s → r ≡ read s
+      unfolding byType
+      by-name e q = typed (rw e q)
+
+      pub no-type : 2 < getD s 0 0 → r ≡ refused (NodeType (getD s 0 0)) → r ≡ read s
+      unfolding byType
+      no-type g q = typed (go (getD s 0 0) g q)
+        where
+          go : (k : ℕ) → 2 < k → r ≡ refused (NodeType k) → r ≡ byType k s
+          go zero g q = absurd (omega arith)
+          go (suc zero) g q = absurd (omega arith)
+          go (suc (suc zero)) g q = absurd (omega arith)
+          go (suc (suc (suc k))) g q = q
