@@ -1,13 +1,14 @@
 // The row of a record line: a call, and words behind it.
+use crate::calls;
 use crate::f_teid_line;
+use crate::fixed;
+use crate::fixed_rows;
+use crate::keys;
 use crate::node_id_line;
 use crate::pfd_line;
-use record_calls::fixed;
-use record_words::calls;
-use record_words::keys;
-use record_words::seen;
-use record_words::seen::Seen;
-use record_words::seen::Values;
+use crate::seen;
+use crate::seen::Seen;
+use crate::seen::Values;
 
 // How many bytes a good line has at most, as many as a payload line.
 pub(crate) const LONGEST: usize = 131202;
@@ -51,21 +52,12 @@ fn put_row(
 // The row of a record of fixed fields.
 fn put_fixed(out: &mut [u8], at: usize, call: usize, seen: Seen, values: &Values) -> usize {
     match call {
-        0..=2 => {
-            let record = fixed::ue_ip_address(call, seen, values);
-            details::put_ue_ip_address(out, at, record, false, 0)
-        }
-        3..=11 => {
-            let record = fixed::f_teid(call, seen, values);
-            details::put_f_teid(out, at, record, false, 0)
-        }
-        13 | 14 => {
-            let record = fixed::fseid(call, seen, values);
-            details::put_fseid(out, at, record, false, 0)
-        }
+        0..=2 => fixed_rows::put_ue_ip_address(out, at, fixed::ue_ip_address(call, seen, values)),
+        3..=11 => fixed_rows::put_f_teid(out, at, fixed::f_teid(call, seen, values)),
+        13 | 14 => fixed_rows::put_fseid(out, at, fixed::fseid(call, seen, values)),
         _ => {
             let record = fixed::outer_header_creation(call, seen, values);
-            details::put_outer_header_creation(out, at, record, false, 0)
+            fixed_rows::put_outer_header_creation(out, at, record)
         }
     }
 }

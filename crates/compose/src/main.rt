@@ -1,9 +1,21 @@
 // Answers each line of the standard input, a record by its fields, a constructor or a builder's calls, by a row with every detail.
+mod calls;
+mod f_teid_calls;
 mod f_teid_line;
+mod fields;
+mod fixed;
+mod fixed_rows;
+mod keys;
 mod line;
 mod node_id_line;
+mod pfd_calls;
 mod pfd_line;
+mod seen;
+mod store;
+mod words;
+mod written;
 
+use lines::left;
 use rows::stream;
 use rows::stream::Stream;
 
@@ -21,17 +33,11 @@ fn answer_all(input: &mut [u8], texts: &mut [u8], output: &mut [u8]) {
         if !stream.is_open {
             return;
         }
-        stream = answer(stream, input, texts, output);
+        if stream.has_line {
+            let line = texts::part(input, stream.from, left(stream.to, stream.from));
+            stream.ready = line::put(output, stream.ready, line, texts);
+        }
     }
-}
-
-// Answers a line, where there is one.
-fn answer(stream: Stream, input: &[u8], texts: &mut [u8], output: &mut [u8]) -> Stream {
-    if !stream.has_line {
-        return stream;
-    }
-    let line = rows::part(input, stream.from, stream.to);
-    stream.answered(line::put(output, stream.ready, line, texts))
 }
 
 fn main() {

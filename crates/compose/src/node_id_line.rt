@@ -1,14 +1,15 @@
 // Node ID: the rows of its record lines.
+use crate::calls;
+use crate::fields;
+use crate::fixed;
+use crate::keys;
+use crate::seen::NAME_PLACE;
+use crate::seen::Seen;
+use crate::seen::V6_LOW;
+use crate::seen::Values;
+use crate::written;
 use answer::Answer;
-use details::written;
 use node_id::NodeId;
-use record_calls::fixed;
-use record_words::calls;
-use record_words::keys;
-use record_words::seen::NAME_PLACE;
-use record_words::seen::Seen;
-use record_words::seen::V6_LOW;
-use record_words::seen::Values;
 
 fn record_of(seen: Seen, values: &Values) -> NodeId {
     if seen.has(keys::V4) {
@@ -39,11 +40,11 @@ pub(crate) fn put(
 ) -> usize {
     let len = slice_len(call, values);
     if texts.len() < len {
-        return details::put_unmade(out, at, Answer::InputTooLong { length: len });
+        return fields::put_unmade(out, at, Answer::InputTooLong { length: len });
     }
     let is_brief = seen.has(keys::BRIEF);
     if call == calls::N_READ {
-        return details::put_node_id_payload(out, at, texts::part(texts, 0, len), is_brief);
+        return fields::put_node_id_payload(out, at, texts::part(texts, 0, len), is_brief);
     }
     written::put_node_id(
         out,

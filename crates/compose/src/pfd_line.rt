@@ -1,12 +1,13 @@
 // PFD Contents: the rows of its record lines.
+use crate::calls;
+use crate::fields;
+use crate::keys;
+use crate::pfd_calls;
+use crate::seen::Seen;
+use crate::seen::Values;
+use crate::written;
 use answer::Answer;
-use details::written;
 use pfd_contents::PfdContentsBuilt;
-use record_calls::pfd_calls;
-use record_words::calls;
-use record_words::keys;
-use record_words::seen::Seen;
-use record_words::seen::Values;
 
 fn put_built(
     out: &mut [u8],
@@ -19,7 +20,7 @@ fn put_built(
 ) -> usize {
     let answer = built.answer;
     if answer.number() != 0 {
-        return details::put_unmade(out, at, answer);
+        return fields::put_unmade(out, at, answer);
     }
     written::put_pfd_contents(out, at, built.record, texts, room, is_raw, is_brief)
 }
@@ -38,11 +39,11 @@ pub(crate) fn put(
     let sum = pfd_calls::to_starts(&mut starts);
     let len = pfd_calls::slice_len(call, sum, values[keys::SLICE]);
     if texts.len() < len {
-        return details::put_unmade(out, at, Answer::InputTooLong { length: len });
+        return fields::put_unmade(out, at, Answer::InputTooLong { length: len });
     }
     let is_brief = seen.has(keys::BRIEF);
     if call == calls::P_READ {
-        return details::put_pfd_contents_payload(out, at, texts::part(texts, 0, len), is_brief);
+        return fields::put_pfd_contents_payload(out, at, texts::part(texts, 0, len), is_brief);
     }
     let built = pfd_calls::built(line, call, values[keys::FLAGS], texts, len, &mut starts);
     let is_raw = calls::has_places(call);

@@ -1,8 +1,36 @@
 // Lines in a buffer that is read into piece by piece.
 ghost use mathlib.Core.Path.{_≡_};
-ghost use Prim.Native.Nat.{_-_, _≤_, min};
+ghost use Prim.Native.Nat.{_+_, _-_, _≤_, min};
 ghost use lib.ListN.{length};
 ghost use Rattle.octets.specs.Octets.{field, put};
+
+// A sum, or the greatest number where it doesn't fit.
+pub fn after(at: usize, n: usize) -> usize
+    ensures { λ r. ⌜ r ≡ min (at + n) 18446744073709551615 ⌝ }
+    ensures { λ r. ⌜ n ≤ r ⌝ }
+{
+    if usize::MAX - at < n {
+        return usize::MAX;
+    }
+    at + n
+}
+
+// A difference, or 0.
+pub fn left(of: usize, taken: usize) -> usize
+    ensures { λ r. ⌜ r ≡ of - taken ⌝ }
+{
+    if of < taken {
+        return 0;
+    }
+    of - taken
+}
+
+pub fn least(a: usize, b: usize) -> usize
+    ensures { λ r. ⌜ r ≡ min a b ⌝ }
+    ensures { λ r. ⌜ r ≤ b ⌝ }
+{
+    if a < b { a } else { b }
+}
 
 // How many of n bytes from a place on a buffer has.
 fn there(len: usize, from: usize, n: usize) -> usize

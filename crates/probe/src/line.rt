@@ -1,7 +1,13 @@
 // The row of a payload line: a letter, a space, and the payload in hex, a dash for the empty one.
+use answer::Answer;
+use details::fixed;
+use details::refusals;
+use details::texted;
 use f_teid::Fteid;
 use fseid::Fseid;
+use node_id::NodeId;
 use outer_header_creation::OuterHeaderCreation;
+use pfd_contents::PfdContents;
 use ue_ip_address::UeIpAddress;
 
 // How many bytes a good line has at most: a letter, a space and 65,600 digit pairs.
@@ -42,48 +48,101 @@ fn put_row(out: &mut [u8], at: usize, letter: u8, payload: &[u8]) -> usize {
         b'U' => put_ue_ip_address(out, at, payload),
         b'F' => put_f_teid(out, at, payload),
         b'S' => put_fseid(out, at, payload),
-        b'N' => details::put_node_id_payload(out, at, payload, false),
+        b'N' => put_node_id(out, at, payload),
         b'O' => put_outer_header_creation(out, at, payload),
-        b'P' => details::put_pfd_contents_payload(out, at, payload, false),
+        b'P' => put_pfd_contents(out, at, payload),
         b'T' => put_text(out, at, payload),
         _ => rows::put_other(out, at),
     }
+}
+
+fn put_unread(out: &mut [u8], at: usize, answer: Answer) -> usize {
+    let words = refusals::UNREAD;
+    let row = rows::row(&words, answer.number() as usize);
+    rows::put(out, at, row, &refusals::unread(answer), b"")
 }
 
 fn put_ue_ip_address(out: &mut [u8], at: usize, payload: &[u8]) -> usize {
     let read = UeIpAddress::unmarshal(payload);
     let answer = read.answer;
     if answer.number() != 0 {
-        return details::put_unread(out, at, answer);
+        return put_unread(out, at, answer);
     }
-    details::put_ue_ip_address(out, at, read.record, true, read.used)
+    let mut wire = [0u8; 64];
+    let written = read.record.marshal(&mut wire);
+    let values = fixed::ue_ip_address(read.record, read.used, written.len);
+    rows::put(out, at, &fixed::UE_IP_ADDRESS, &values, &wire)
 }
 
 fn put_f_teid(out: &mut [u8], at: usize, payload: &[u8]) -> usize {
     let read = Fteid::unmarshal(payload);
     let answer = read.answer;
     if answer.number() != 0 {
-        return details::put_unread(out, at, answer);
+        return put_unread(out, at, answer);
     }
-    details::put_f_teid(out, at, read.record, true, read.used)
+    let mut wire = [0u8; 64];
+    let written = read.record.marshal(&mut wire);
+    let values = fixed::f_teid(read.record, read.used, written.len);
+    rows::put(out, at, &fixed::F_TEID, &values, &wire)
 }
 
 fn put_fseid(out: &mut [u8], at: usize, payload: &[u8]) -> usize {
     let read = Fseid::unmarshal(payload);
     let answer = read.answer;
     if answer.number() != 0 {
-        return details::put_unread(out, at, answer);
+        return put_unread(out, at, answer);
     }
-    details::put_fseid(out, at, read.record, true, read.used)
+    let mut wire = [0u8; 64];
+    let written = read.record.marshal(&mut wire);
+    let values = fixed::fseid(read.record, read.used, written.len);
+    rows::put(out, at, &fixed::FSEID, &values, &wire)
 }
 
 fn put_outer_header_creation(out: &mut [u8], at: usize, payload: &[u8]) -> usize {
     let read = OuterHeaderCreation::unmarshal(payload);
     let answer = read.answer;
     if answer.number() != 0 {
-        return details::put_unread(out, at, answer);
+        return put_unread(out, at, answer);
     }
-    details::put_outer_header_creation(out, at, read.record, true, read.used)
+    let mut wire = [0u8; 64];
+    let written = read.record.marshal(&mut wire);
+    let values = fixed::outer_header_creation(read.record, read.used, written.len);
+    rows::put(out, at, &fixed::OUTER_HEADER_CREATION, &values, &wire)
+}
+
+// The row up to the bar before the fields.
+fn put_written(out: &mut [u8], at: usize, used: usize, wire: &[u8]) -> usize {
+    let values = [rows::count(used), rows::front(true, wire.len())];
+    rows::put(out, at, b"0 # # | ", &values, wire)
+}
+
+fn put_node_id(out: &mut [u8], at: usize, payload: &[u8]) -> usize {
+    let read = NodeId::unmarshal(payload);
+    let answer = read.answer;
+    if answer.number() != 0 {
+        return put_unread(out, at, answer);
+    }
+    let mut wire = [0u8; 65535];
+    let record = read.record;
+    let written = record.marshal(payload, &mut wire);
+    let end = put_written(out, at, read.used, texts::part(&wire, 0, written.len));
+    let words = texted::NODE_ID;
+    let row = rows::row(&words, texted::node_id_type(record));
+    rows::put(out, end, row, &texted::node_id(record, true), payload)
+}
+
+fn put_pfd_contents(out: &mut [u8], at: usize, payload: &[u8]) -> usize {
+    let read = PfdContents::unmarshal(payload);
+    let answer = read.answer;
+    if answer.number() != 0 {
+        return put_unread(out, at, answer);
+    }
+    let mut wire = [0u8; 65535];
+    let record = read.record;
+    let written = record.marshal(payload, &mut wire);
+    let end = put_written(out, at, read.used, texts::part(&wire, 0, written.len));
+    let values = texted::pfd_contents(record, true);
+    rows::put(out, end, &texted::PFD_CONTENTS, &values, payload)
 }
 
 // What is good of a text, and how many bytes behind that are bad.

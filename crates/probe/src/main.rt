@@ -1,6 +1,7 @@
 // Answers each line of the standard input, a letter and a payload in hex, by a row with every detail.
 mod line;
 
+use lines::left;
 use rows::stream;
 use rows::stream::Stream;
 
@@ -18,17 +19,11 @@ fn answer_all(input: &mut [u8], payload: &mut [u8], output: &mut [u8]) {
         if !stream.is_open {
             return;
         }
-        stream = answer(stream, input, payload, output);
+        if stream.has_line {
+            let line = texts::part(input, stream.from, left(stream.to, stream.from));
+            stream.ready = line::put(output, stream.ready, line, payload);
+        }
     }
-}
-
-// Answers a line, where there is one.
-fn answer(stream: Stream, input: &[u8], payload: &mut [u8], output: &mut [u8]) -> Stream {
-    if !stream.has_line {
-        return stream;
-    }
-    let line = rows::part(input, stream.from, stream.to);
-    stream.answered(line::put(output, stream.ready, line, payload))
 }
 
 fn main() {

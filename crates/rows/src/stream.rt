@@ -1,12 +1,11 @@
 // Lines of the standard input, of any length in constant memory, and the rows that answer them on the standard output.
-use crate::after;
-use crate::least;
-use crate::left;
-use crate::part;
 use libc::STDIN_FILENO;
 use libc::STDOUT_FILENO;
+use lines::after;
+use lines::least;
+use lines::left;
 ghost use mathlib.Core.Path.{_≡_};
-ghost use lib.ListN.{length};
+ghost use lib.ListN.{length, replicate};
 
 // Where a program stands in its input and its output.
 pub struct Stream {
@@ -22,16 +21,17 @@ pub struct Stream {
     pub ready: usize,
 }
 
-// Zeros, for an input or an output: more than the longest line or row of a program has. That its length is known here spares the
-// programs to count it.
+// Zeros, for an input or an output: more than the longest line or row of a program has. That they are known here spares the
+// programs to count them.
 pub fn buffer() -> [u8; 400000]
+    ensures { λ r. ⌜ r ≡ replicate 400000 0 ⌝ }
     ensures { λ r. ⌜ 400000 ≡ length r ⌝ }
 {
     [0; 400000]
 }
 
 fn write(output: &[u8], ready: usize) -> bool {
-    io::write_all(STDOUT_FILENO, part(output, 0, ready))
+    io::write_all(STDOUT_FILENO, texts::part(output, 0, ready))
 }
 
 // Where the input ends after a read, and whether that failed.
@@ -77,29 +77,33 @@ impl Stream {
         ready: 0,
     };
 
-    // Finds the next line, and room for a row. Where no whole line is loaded, writes what is ready and reads on; of an unfinished
-    // line no more than `longest` bytes count.
-    pub fn next(self, input: &mut [u8], output: &[u8], longest: usize, row: usize) -> Stream {
-        let loaded = least(self.loaded, input.len());
-        let to = bytes::scan::find(input, least(self.to, loaded), loaded, b'\n');
+    // Passes over the line that it has, and finds the next one, and room for a row. Where no whole line is loaded, writes what is
+    // ready and reads on; of an unfinished line no more than `longest` bytes count.
+    pub fn next(self, input: &mut [u8], output: &[u8], longest: usize, row: usize) -> Stream
+        ensures { λ r. ⌜ length (now (input .exit)) ≡ length (now (input .entry)) ⌝ }
+    {
+        let stream = self.behind_line();
+        let loaded = least(stream.loaded, input.len());
+        let to = bytes::scan::find(input, least(stream.to, loaded), loaded, b'\n');
         if to < loaded {
-            return self.with_line(to, output, row);
+            return stream.with_line(to, output, row);
         }
-        if !write(output, self.ready) {
+        if !write(output, stream.ready) {
             return Stream::END;
         }
-        if !self.more {
+        if !stream.more {
             return Stream::END;
         }
-        self.read(input, longest)
+        stream.read(input, longest)
     }
 
-    // The stream behind its line, with so much of the output ready.
-    pub fn answered(mut self, ready: usize) -> Stream {
+    fn behind_line(mut self) -> Stream {
+        if !self.has_line {
+            return self;
+        }
         self.has_line = false;
         self.from = after(self.to, 1);
         self.to = self.from;
-        self.ready = ready;
         self
     }
 

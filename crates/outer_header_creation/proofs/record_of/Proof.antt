@@ -5,7 +5,14 @@ use Rattle.outer_header_creation.proofs.record_of.Statement.{statement}
 use Rattle.outer_header_creation.proofs.record_of.Tie as tie
 
 returns : tie.Need-returns
-returns c = search parts
+returns c =
+    let ctag = c .before .before in
+    let port = ctag .before .before in
+    let ipv6 = port .before .before in
+    let ipv4 = ipv6 .before .before in
+    let teid = ipv4 .before .before in
+    let start = teid .before .before .before in
+    parts _ _ _ _ _ _ _ _ _ (start .pre .0) (teid .teid-of .ensures) (ipv4 .of .ensures) (ipv6 .of2 .ensures) (port .of3 .ensures) (ctag .of4 .ensures) (c .of5 .ensures)
 
 pub record-of-spec : {M : Type 1} → statement M
 record-of-spec =

@@ -1,0 +1,31 @@
+// The rows of refusals.
+use answer::Answer;
+use octets::either;
+use rows::Value;
+ghost use mathlib.Core.Path.{_≡_};
+ghost use Rattle.details.specs.Refusals.{firstValue, unreadValues};
+
+// The rows of a payload that is refused, by the number of the answer: a reader gives the first five.
+pub const UNREAD: [u8; 128] =
+    *b"0\n1 0 - | err=1 field=# exp=# act=#\n2 0 - | err=2 flags=# rule=#\n3 0 - | err=3 type=#\n4 0 - | err=4 place=#\n5 0 - | err=5 len=#\n";
+
+// The first value of a refusal: flags and a type are bytes.
+fn first_value(number: u8, x: usize) -> Value
+    ensures { λ r. ⌜ r ≡ firstValue number x ⌝ }
+{
+    if either(number == 2, number == 3) {
+        return rows::number8(true, (x % 256) as u8);
+    }
+    rows::count(x)
+}
+
+pub fn unread(answer: Answer) -> [Value; 3]
+    ensures { λ r. ⌜ r ≡ unreadValues answer ⌝ }
+{
+    let values = answer.values();
+    [
+        first_value(answer.number(), values.0),
+        rows::count(values.1),
+        rows::count(values.2),
+    ]
+}
