@@ -1,4 +1,4 @@
--- What the steps on the way to a line's row answer.
+-- What the steps on the way to a line's row answer: nothing here is the paper's.
 use Prim.Native.Nat.{ℕ}
 use mathlib.Core.Bool.{true}
 use mathlib.Core.List.{List}

@@ -1,4 +1,4 @@
--- What the private functions answer. No promise of a public function cites this file.
+-- What the private functions answer: nothing here is the paper's. No promise of a public function cites this file.
 use Prim.Native.Nat.{ℕ, _+_, _-_, _≤_, _<_}
 use mathlib.Core.Path.{_≡_}
 use mathlib.Core.Bool.{Bool, true, cond}
