@@ -59,7 +59,7 @@ fn main() {
         count += 1;
         if count <= most {
             rows.push_str(&format!(
-                "line {number_of_line}: {}\n  oracle:  {}\n  program: {}\n",
+                "line {number_of_line}: {}\n  wanted:  {}\n  program: {}\n",
                 shown(&line),
                 shown(&want),
                 shown(&have)

@@ -5,12 +5,14 @@
 //! be counted up, then random ones.
 //!
 //!   case    payload lines of at most 4,096 digit pairs
-//!   full    payload lines of at most 65,600 digit pairs
+//!   full    payload lines of at most 65,600 digit pairs; of D pairs of numbers
 //!   build   record lines
 //!   all     of T: every text of at most three bytes
 //!
 //! --open leaves out the byte that ends the last line. --list makes a short list of small lines, to keep.
 
+#[path = "gen/distances.rs"]
+mod distances;
 #[path = "gen/texts.rs"]
 mod texts;
 
@@ -78,9 +80,14 @@ impl Random {
 /// A field of a payload: whether a first byte has it sent, and its width.
 type Field = (fn(u8) -> bool, usize);
 
-/// In place of a value's bytes: a text, and texts with commas between them.
+/// In place of a value's bytes: a text, texts with commas between them, and an output's length in decimal.
 const TEXT: usize = usize::MAX;
 const LIST: usize = TEXT - 1;
+const ROOM: usize = TEXT - 2;
+
+/// The most digit pairs of a good line, and the most bytes.
+const PAIRS: usize = 65_600;
+const LONGEST_LINE: usize = 2 + 2 * PAIRS;
 
 /// A record line: its first word, and its keys with the bytes of their values, none for a bare key.
 struct Call {
@@ -101,6 +108,8 @@ struct Kind {
     calls: &'static [Call],
     /// The calls of its builder, each with the bytes of its value.
     builder: &'static [(&'static str, usize)],
+    /// Record lines that always come.
+    lines: &'static [&'static str],
     /// Of a kind that holds texts.
     texts: Option<Texts>,
 }
@@ -111,11 +120,9 @@ struct Texts {
     long: fn(&mut Random, usize, bool) -> Vec<u8>,
     /// Payloads that come after those of every first byte and length.
     edges: fn() -> Vec<Vec<u8>>,
-    /// Record lines that always come.
-    lines: &'static [&'static str],
 }
 
-const KINDS: [Kind; 7] = [
+const KINDS: [Kind; 8] = [
     Kind {
         letter: b'U',
         longest: 22,
@@ -134,6 +141,7 @@ const KINDS: [Kind; 7] = [
             Call { head: "U.choose", keys: &[("ch4", 0), ("ch6", 0)], flags: 0 },
         ],
         builder: &[],
+        lines: &[],
         texts: None,
     },
     Kind {
@@ -160,6 +168,7 @@ const KINDS: [Kind; 7] = [
             Call { head: "F.choose_dual_stack", keys: &[("teid", 4), ("v4", 4), ("v6", 16)], flags: 0 },
         ],
         builder: &[("teid", 4), ("v4", 4), ("v6", 16), ("dual", 20), ("ch4", 0), ("ch6", 0), ("chdual", 0), ("cid", 1)],
+        lines: &[],
         texts: None,
     },
     Kind {
@@ -175,6 +184,7 @@ const KINDS: [Kind; 7] = [
             Call { head: "S.new", keys: &[("seid", 8), ("v4", 4), ("v6", 16)], flags: 0 },
         ],
         builder: &[],
+        lines: &[],
         texts: None,
     },
     Kind {
@@ -217,6 +227,7 @@ const KINDS: [Kind; 7] = [
             Call { head: "O.flags.udp_ipv6", keys: &[], flags: 0 },
         ],
         builder: &[],
+        lines: &[],
         texts: None,
     },
     Kind {
@@ -241,17 +252,17 @@ const KINDS: [Kind; 7] = [
             Call { head: "N.new_fqdn", keys: &[("name", TEXT)], flags: 0 },
         ],
         builder: &[],
+        lines: &[
+            "N", "N name=-", "N name=61", "N name=C3", "N name=61*3", "N.new_fqdn name=-", "N.new_fqdn", "N.new_ipv4",
+            "N.new", "N.fqdn name=61", "N v4=C0000201 name=61", "N name=61 name=62", "N.raw", "N.raw name=0+0",
+            "N.raw slice=61 name=0+1", "N.raw slice=61 name=0+2", "N.raw slice=61 name=1+0", "N.raw slice=61 name=2+0",
+            "N.raw slice=C3A9 name=0+1", "N.raw slice=C3A9 name=0+2 room=2", "N.raw slice=C3A9 name=0+2 room=3",
+            "N.raw slice=61 name=1", "N.raw slice=61 name=0+", "N.raw slice=61 name=+1", "N.raw slice=61 name=0+1 v4=C0000201",
+            "N.read", "N.read slice=02,61", "N.read slice=02,61 brief", "N.read slice=-", "N.read slice=", "N.read brief",
+        ],
         texts: Some(Texts {
             long: texts::long_node_id,
             edges: texts::node_id_edges,
-            lines: &[
-                "N", "N name=-", "N name=61", "N name=C3", "N name=61*3", "N.new_fqdn name=-", "N.new_fqdn", "N.new_ipv4",
-                "N.new", "N.fqdn name=61", "N v4=C0000201 name=61", "N name=61 name=62", "N.raw", "N.raw name=0+0",
-                "N.raw slice=61 name=0+1", "N.raw slice=61 name=0+2", "N.raw slice=61 name=1+0", "N.raw slice=61 name=2+0",
-                "N.raw slice=C3A9 name=0+1", "N.raw slice=C3A9 name=0+2 room=2", "N.raw slice=C3A9 name=0+2 room=3",
-                "N.raw slice=61 name=1", "N.raw slice=61 name=0+", "N.raw slice=61 name=+1", "N.raw slice=61 name=0+1 v4=C0000201",
-                "N.read", "N.read slice=02,61", "N.read slice=02,61 brief", "N.read slice=-", "N.read slice=", "N.read brief",
-            ],
         }),
     },
     Kind {
@@ -282,26 +293,73 @@ const KINDS: [Kind; 7] = [
             ("fd", TEXT), ("url", TEXT), ("dn", TEXT), ("cp", TEXT), ("dnp", TEXT), ("afd", LIST), ("aurl", LIST), ("adnp", LIST),
             ("afd+", TEXT), ("aurl+", TEXT), ("adnp+", TEXT),
         ],
+        lines: &[
+            "P", "P.build", "P fd=-", "P fd=", "P fd=61", "P fd=C3", "P afd=", "P afd=-", "P afd=-,-", "P afd=61,", "P afd=,61",
+            "P afd+=61", "P fd+=61", "P.build fd=", "P.build fd+=61", "P.build afd=", "P.build afd", "P.build afd+=",
+            "P.build afd+=-", "P.build afd+=61,62", "P.build afd=61,62 afd+=63", "P.build afd+=61 afd=", "P.build fd=C3 fd=61",
+            "P.build fd=61 fd=C3", "P.build afd=C3 afd=61", "P.build afd=C3 afd+=61", "P.build afd+=C3 afd=61", "P.build flags=01",
+            "P.build url=C3 afd+=C3", "P.build afd+=61 aurl+=62 afd+=63 aurl+=64", "P.build fd=61 fd=62", "P.build.",
+            "P.flow_description fd=61 url=62", "P.flow_description fd=", "P.flow_description", "P.flow_and_url fd=61",
+            "P.custom_pfd_content cp=61", "P.url url=C3", "P flags=01 fd=61*3", "P flags=FF", "P.raw", "P.raw_build",
+            "P.raw afd=0+0*0", "P.raw afd=9+0*0", "P.raw afd=0+0*1", "P.raw fd=0+0", "P.raw fd=1+0",
+            "P.raw slice=000161 afd=0+3*1", "P.raw slice=000161 afd=0+3*2", "P.raw slice=000161 afd=0+2*1",
+            "P.raw slice=000161 afd=0+3*0", "P.raw slice=00016100 afd=0+4*1", "P.raw slice=000161 afd=0+3*1 room=4",
+            "P.raw_build slice=000161,000162 afd+=0 afd+=3", "P.raw_build slice=000161,000162 afd+=0 afd+=2",
+            "P.raw_build slice=000161,000162 afd+=3 afd+=0", "P.raw_build slice=000161,000162 afd=0+3*1 afd+=3",
+            "P.raw_build slice=000161,000162 afd=0+2*1 afd+=3", "P.raw_build afd+=0", "P.raw_build fd+=0", "P.raw_build fd=0+0",
+            "P.read", "P.read slice=6000000161000162000163", "P.read slice=60,00,000161000162000163 brief", "P.read slice=-",
+        ],
         texts: Some(Texts {
             long: texts::long_pfd,
             edges: texts::pfd_edges,
-            lines: &[
-                "P", "P.build", "P fd=-", "P fd=", "P fd=61", "P fd=C3", "P afd=", "P afd=-", "P afd=-,-", "P afd=61,", "P afd=,61",
-                "P afd+=61", "P fd+=61", "P.build fd=", "P.build fd+=61", "P.build afd=", "P.build afd", "P.build afd+=",
-                "P.build afd+=-", "P.build afd+=61,62", "P.build afd=61,62 afd+=63", "P.build afd+=61 afd=", "P.build fd=C3 fd=61",
-                "P.build fd=61 fd=C3", "P.build afd=C3 afd=61", "P.build afd=C3 afd+=61", "P.build afd+=C3 afd=61", "P.build flags=01",
-                "P.build url=C3 afd+=C3", "P.build afd+=61 aurl+=62 afd+=63 aurl+=64", "P.build fd=61 fd=62", "P.build.",
-                "P.flow_description fd=61 url=62", "P.flow_description fd=", "P.flow_description", "P.flow_and_url fd=61",
-                "P.custom_pfd_content cp=61", "P.url url=C3", "P flags=01 fd=61*3", "P flags=FF", "P.raw", "P.raw_build",
-                "P.raw afd=0+0*0", "P.raw afd=9+0*0", "P.raw afd=0+0*1", "P.raw fd=0+0", "P.raw fd=1+0",
-                "P.raw slice=000161 afd=0+3*1", "P.raw slice=000161 afd=0+3*2", "P.raw slice=000161 afd=0+2*1",
-                "P.raw slice=000161 afd=0+3*0", "P.raw slice=00016100 afd=0+4*1", "P.raw slice=000161 afd=0+3*1 room=4",
-                "P.raw_build slice=000161,000162 afd+=0 afd+=3", "P.raw_build slice=000161,000162 afd+=0 afd+=2",
-                "P.raw_build slice=000161,000162 afd+=3 afd+=0", "P.raw_build slice=000161,000162 afd=0+3*1 afd+=3",
-                "P.raw_build slice=000161,000162 afd=0+2*1 afd+=3", "P.raw_build afd+=0", "P.raw_build fd+=0", "P.raw_build fd=0+0",
-                "P.read", "P.read slice=6000000161000162000163", "P.read slice=60,00,000161000162000163 brief", "P.read slice=-",
-            ],
         }),
+    },
+    Kind {
+        letter: b'H',
+        // A byte more than the longest form, so that every length up to 20 comes.
+        longest: 17,
+        good: |r| {
+            let first = r.byte();
+            let mut p = fixed(r, first, &[(|_| true, 8), (|b| b & 1 != 0, 8)]);
+            match r.below(8) {
+                0 => p[1..].fill(*r.pick(&[0, 255])),
+                // a length field that fits
+                1 | 2 => (p[2], p[3]) = (0, p.len() as u8 - 4),
+                _ => {}
+            }
+            p
+        },
+        samples: &[
+            "20010004000001A5", "22010004000001A5", "2132000C0123456789ABCDEFABCDEF50", "38FFFFFFFFFFFFFF", "20010004000001", "21010004000001A5",
+        ],
+        calls: &[
+            Call {
+                head: "H",
+                keys: &[("ver", 1), ("fo", 0), ("mp", 0), ("s", 0), ("type", 1), ("len", 2), ("seid", 8), ("seq", 4), ("prio", 1)],
+                flags: 0,
+            },
+            Call {
+                head: "H",
+                keys: &[
+                    ("ver", 1), ("fo", 0), ("mp", 0), ("s", 0), ("type", 1), ("len", 2), ("seid", 8), ("seq", 4), ("prio", 1),
+                    ("room", ROOM),
+                ],
+                flags: 0,
+            },
+        ],
+        builder: &[],
+        lines: &[
+            "H", "H ", "H -", "H 21", "H fo", "H mp", "H s", "H fo mp s", "H s mp fo", "H fo fo", "H fo mp fo", "H fo=", "H fo=1", "H s=1",
+            "H FO", "H f", "H foo", "H fo ", "H  fo", "H fo  mp", "H fo\tmp", "H\tfo", "H fo\r", "H fo,mp", "H fo+", "H fo+=1", "Hfo", "H -fo",
+            "H ver", "H ver=", "H ver=1", "H ver=01", "H ver=001", "H ver=08", "H ver=FF", "H ver=0x01", "H ver=01 ver=01", "H ver=01 ver=02",
+            "H Ver=01", "H seq=000001", "H seq=00FFFFFF", "H seq=01000000", "H seq=FFFFFFFF", "H seq=1", "H type=0001", "H len=04",
+            "H seid=00000001", "H seid=0123456789ABCDEF", "H s seid=0123456789ABCDEF", "H prio=A5", "H mp prio=A5", "H prio=5", "H flags=21",
+            "H rec=H", "H brief", "H.", "H.new", "H.raw room=8", "H room", "H room=", "H room=0", "H room=7", "H room=8", "H room=9",
+            "H s room=7", "H s room=8", "H s room=15", "H s room=16", "H s room=17", "H room=16 s", "H room=65535", "H room=65536", "H room=008",
+            "H room=8 room=8", "H room=8 ", "H room=-1", "H room=+8", "H room=0x8", "H room=8.0", "H room=65544", "H room=4294967304",
+            "H room=18446744073709551624", "H fo=1 room=0",
+        ],
+        texts: None,
     },
     Kind {
         letter: b'T',
@@ -313,6 +371,7 @@ const KINDS: [Kind; 7] = [
         samples: &["61C3", "C3A9", "EDA080", "F48FBFBF"],
         calls: &[],
         builder: &[],
+        lines: &[],
         texts: None,
     },
 ];
@@ -501,12 +560,12 @@ impl<'a> Payloads<'a> {
         all
     }
 
-    /// Lengths of payloads around the limits. Short lists have few: the long one, of 131 KB, is in that of S alone.
+    /// Lengths of payloads around the limits. Short lists have few: the long one, of 131 KB, is in those of S and H alone.
     fn limits(&self) -> Vec<usize> {
         let most = self.pairs;
         match (self.short, most) {
             (true, 4_096) => vec![4_096, 4_097],
-            (true, _) if self.kind.letter != b'S' => vec![],
+            (true, _) if !b"SH".contains(&self.kind.letter) => vec![],
             (true, _) => vec![65_536],
             (false, 4_096) => vec![4_095, 4_096, 4_097, 4_098],
             (false, _) => vec![4_096, 4_097, 65_534, 65_535, 65_536, 65_537, most - 1, most, most + 1],
@@ -727,8 +786,10 @@ impl Records<'_> {
         for line in [format!("{small}.new"), format!("{small} flags=01"), format!("{k}{k} flags=01"), format!(" {k}.new")] {
             all.push(line.into_bytes());
         }
-        if let Some(t) = &self.kind.texts {
-            all.extend(t.lines.iter().map(|l| l.as_bytes().to_vec()));
+        all.extend(self.kind.lines.iter().map(|l| l.as_bytes().to_vec()));
+        if !self.short && self.kind.letter == b'H' {
+            // Good lines as long as they may be, and a byte longer.
+            all.extend([0, 1].map(|more| zeros_in("H fo room=", "8", LONGEST_LINE + more)));
         }
         all
     }
@@ -865,7 +926,7 @@ impl Call {
 
     fn flag_lines(&self) -> usize {
         match self.keys.first() {
-            Some(("flags", _)) => 256 * self.choices() / 2,
+            Some(("flags" | "ver", _)) => 256 * self.choices() / 2,
             _ => 0,
         }
     }
@@ -880,11 +941,19 @@ impl Call {
                 match width {
                     TEXT => return (key.to_string(), "=", texts::text_value(r)),
                     LIST => return (key.to_string(), "=", texts::list_value(r)),
+                    ROOM => return (key.to_string(), "=", room_value(r)),
                     _ => {}
                 }
                 let mut value = r.bytes(width);
                 if key == "flags" && !r.one_in(6) {
                     value[0] &= self.flags;
+                }
+                // A header has 3 bits of the version and 24 of the sequence number; a record may have more.
+                if key == "ver" && r.one_in(2) {
+                    value[0] &= 7;
+                }
+                if key == "seq" && r.one_in(2) {
+                    value[0] = r.one_in(4) as u8;
                 }
                 if r.one_in(8) {
                     value.fill(*r.pick(&[0, 255]));
@@ -897,6 +966,28 @@ impl Call {
     fn line(&self, tokens: &[Token]) -> Vec<u8> {
         line_of_words(self.head, tokens)
     }
+}
+
+/// An output's length: around those of headers, any, and now and then a word that is none.
+fn room_value(r: &mut Random) -> Vec<u8> {
+    let n = match r.below(16) {
+        0 => r.below(65_536),
+        1 => r.below(24),
+        2 => return r.pick(&ODD_ROOMS).as_bytes().to_vec(),
+        _ => *r.pick(&[0, 7, 8, 9, 15, 16, 17, 65_535]),
+    };
+    let zeros = if r.one_in(16) { r.below(24) } else { 0 };
+    format!("{}{n}", "0".repeat(zeros)).into_bytes()
+}
+
+const ODD_ROOMS: [&str; 20] = [
+    "65536", "65544", "4294967304", "18446744073709551615", "18446744073709551624", "99999999999999999999999", "", "-", "-8", "+8",
+    "8.0", "0x10", "1e1", "1F", "8,16", "8+8", "8*1", "\u{668}", "16\r", "\t16",
+];
+
+/// A line of so many bytes: zeros between two words.
+fn zeros_in(head: &str, end: &str, bytes: usize) -> Vec<u8> {
+    format!("{head}{}{end}", "0".repeat(bytes - head.len() - end.len())).into_bytes()
 }
 
 fn line_of_words(head: &str, tokens: &[Token]) -> Vec<u8> {
@@ -964,6 +1055,12 @@ const TEXT_KEYS: [&str; 24] = [
     "af", "slice", "room", "brief", "teid", "afd++",
 ];
 
+/// Keys of headers, and some of none.
+const HEADER_KEYS: [&str; 20] = [
+    "ver", "fo", "mp", "s", "type", "len", "seid", "seq", "prio", "room", "", "v", "version", "f", "se", "flags", "brief", "msg", "rec",
+    "teid",
+];
+
 /// Changes one token: its key, its sign, its value, or how often it is there.
 fn spoil_token(r: &mut Random, tokens: &mut Vec<Token>, short: bool, kind: &Kind) {
     let at = r.below(tokens.len());
@@ -985,6 +1082,7 @@ fn spoil_token(r: &mut Random, tokens: &mut Vec<Token>, short: bool, kind: &Kind
             value[i] = *r.pick(b"gG:/@`-+ .,=*xX\0\x7f\x80\xff");
         }
         8 if kind.texts.is_some() => *key = r.pick(&TEXT_KEYS).to_string(),
+        8 if kind.letter == b'H' => *key = r.pick(&HEADER_KEYS).to_string(),
         8 => *key = r.pick(&KEYS).to_string(),
         9 => *key = key.to_uppercase(),
         10 => {
@@ -1022,6 +1120,7 @@ fn short_payload(mut i: u64) -> Vec<u8> {
 enum Source<'a> {
     Payloads(Payloads<'a>),
     Records(Records<'a>),
+    Distances,
     Short(u8),
 }
 
@@ -1059,6 +1158,10 @@ impl<'a> Sequence<'a> {
         Sequence { seed, fixed: p.fixed_lines(), counted: p.counted(), source: Source::Records(p) }
     }
 
+    fn distances(seed: u64, short: bool) -> Self {
+        Sequence { seed, fixed: distances::fixed_lines(short), counted: distances::counted(), source: Source::Distances }
+    }
+
     fn short_payloads(letter: u8, seed: u64) -> Self {
         Sequence { seed, fixed: Vec::new(), counted: SHORT_PAYLOADS as usize, source: Source::Short(letter) }
     }
@@ -1079,6 +1182,8 @@ impl<'a> Sequence<'a> {
             (Source::Payloads(p), false) => p.random_line(&mut r),
             (Source::Records(p), true) => p.counted_line(n, &mut r),
             (Source::Records(p), false) => p.random_line(&mut r),
+            (Source::Distances, true) => distances::counted_line(n),
+            (Source::Distances, false) => distances::random_line(&mut r),
             (Source::Short(letter), true) => line_of(&mut Random(0), *letter, &short_payload(n as u64)),
             (Source::Short(_), false) => stop("there are no more payloads of at most three bytes"),
         }
@@ -1127,12 +1232,13 @@ fn main() {
         }
     }
     let kind = KINDS.iter().find(|k| letter.as_bytes() == [k.letter]);
-    let kind = kind.unwrap_or_else(|| stop(&format!("no kind {letter} yet")));
-    let sequence = match form.as_str() {
-        "case" => Sequence::payloads(kind, 4_096, seed, list),
-        "full" => Sequence::payloads(kind, 65_600, seed, list),
-        "build" if !kind.calls.is_empty() => Sequence::records(kind, seed, list),
-        "all" => Sequence::short_payloads(kind.letter, seed),
+    let sequence = match (kind, form.as_str()) {
+        (None, _) if letter != "D" => stop(&format!("no kind {letter} yet")),
+        (None, "full") => Sequence::distances(seed, list),
+        (Some(kind), "case") => Sequence::payloads(kind, 4_096, seed, list),
+        (Some(kind), "full") => Sequence::payloads(kind, PAIRS, seed, list),
+        (Some(kind), "build") if !kind.calls.is_empty() => Sequence::records(kind, seed, list),
+        (Some(kind), "all") => Sequence::short_payloads(kind.letter, seed),
         _ => stop(&format!("{letter} has no form {form}")),
     };
     let mut out = std::io::BufWriter::with_capacity(1 << 16, std::io::stdout().lock());

@@ -26,7 +26,7 @@ pub enum Fault {
     Rule(u32),      // 9: a builder's rule
     InputTooLong(usize), // 5, only with --limit
     OutputTooLong,        // 7, only of raw lines
-    NoRoom(usize),  // 8, only of raw lines
+    NoRoom(usize),  // 8, only of raw lines and of headers
 }
 
 pub type Made<T> = Result<T, Fault>;
@@ -568,10 +568,12 @@ fn pfd_built(o: &Options, tokens: Vec<Token>) -> Made<PfdContents> {
     b.build().map_err(rule)
 }
 
+/// The record, where its written form has room.
 fn header(tokens: Vec<Token>) -> Made<Header> {
-    let f = Fields::new(tokens, &["ver", "fo", "mp", "s", "type", "len", "seid", "seq", "prio"])?;
+    let f = Fields::new(tokens, &["ver", "fo", "mp", "s", "type", "len", "seid", "seq", "prio", "room"])?;
+    let room = raw::room(f.get("room")?)?;
     let raw = f.num_or_0("type", 1)? as u8;
-    Ok(Header {
+    let h = Header {
         version: f.num_or_0("ver", 1)? as u8,
         has_fo: f.bare("fo")?,
         has_mp: f.bare("mp")?,
@@ -582,5 +584,9 @@ fn header(tokens: Vec<Token>) -> Made<Header> {
         sequence_number: SequenceNumber(f.num_or_0("seq", 4)? as u32),
         message_priority: f.num_or_0("prio", 1)? as u8,
         raw_message_type: raw,
-    })
+    };
+    match h.marshal().len() {
+        n if n > room => Err(Fault::NoRoom(n)),
+        _ => Ok(h),
+    }
 }

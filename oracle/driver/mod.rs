@@ -39,18 +39,30 @@ impl Options {
 /// The answer of any line that is not of the asked form.
 const OTHER: &str = "? 0 -";
 
-/// What the program `probe` reads: its longest payload. The program `compose` reads lines that are no longer.
+/// What the program `probe` reads: its longest payload. The programs `compose` and `desk` read lines that are no longer.
 const PROBE_PAIRS: usize = 65_600;
-const COMPOSE_LINE: usize = 2 + 2 * PROBE_PAIRS;
+const LONGEST_LINE: usize = 2 + 2 * PROBE_PAIRS;
 
 type Mode = fn(&Options, &[u8], &mut String);
 
 /// A line of the program `compose`: `=` or `.` is in each record line, and in no payload line.
 fn compose_line(o: &Options, line: &[u8], out: &mut String) {
-    if line.len() <= COMPOSE_LINE && line.iter().any(|c| matches!(c, b'=' | b'.')) {
+    if line.len() <= LONGEST_LINE && line.iter().any(|c| matches!(c, b'=' | b'.')) {
         build::answer(o, line, out);
     } else {
         out.push_str(OTHER);
+    }
+}
+
+/// A line of the program `desk`: a header to be read, or one to be written, of at least one token. The distances that
+/// the program gives too are nothing of the published Rust's.
+fn desk_line(o: &Options, line: &[u8], out: &mut String) {
+    if line.len() > LONGEST_LINE || !line.starts_with(b"H ") {
+        out.push_str(OTHER);
+    } else if line::payload_of(line, o.max_pairs).is_some() {
+        header::answer(o, line, out);
+    } else {
+        build::answer(o, line, out);
     }
 }
 
@@ -72,8 +84,8 @@ pub fn main() {
                 o.limit = true;
                 o.max_pairs = PROBE_PAIRS;
             }
-            "--compose" => {
-                mode = compose_line;
+            "--compose" | "--desk" => {
+                mode = if a == "--desk" { desk_line } else { compose_line };
                 o.full = true;
                 o.limit = true;
                 o.max_pairs = PROBE_PAIRS;
@@ -105,7 +117,7 @@ pub fn main() {
 fn usage() -> ! {
     eprintln!(
         "usage: oracle [--full] [--bad] [--limit] [--max-pairs N] [--letters LETTERS] \
-         [--header | --ies | --build | --probe | --compose | --check | --zero-types]"
+         [--header | --ies | --build | --probe | --compose | --desk | --check | --zero-types]"
     );
     std::process::exit(2)
 }

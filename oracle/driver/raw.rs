@@ -37,6 +37,14 @@ fn number(val: &str) -> Made<usize> {
     val.parse().map_err(|_| Fault::Other)
 }
 
+/// The output's length.
+pub fn room(val: Option<&str>) -> Made<usize> {
+    match val.map_or(Ok(ROOM), number)? {
+        n if n > ROOM => Err(Fault::Other),
+        n => Ok(n),
+    }
+}
+
 /// PLACE+LENGTH
 fn span(val: &str) -> Made<(usize, usize)> {
     let (place, len) = needed(val.split_once('+'))?;
@@ -79,12 +87,8 @@ struct Frame {
 }
 
 impl Frame {
-    fn of(slice_val: Option<&str>, room: Option<&str>, brief: bool) -> Made<Frame> {
-        let room = room.map_or(Ok(ROOM), number)?;
-        if room > ROOM {
-            return Err(Fault::Other);
-        }
-        Ok(Frame { slice: slice(slice_val)?, room, brief })
+    fn of(slice_val: Option<&str>, room_val: Option<&str>, brief: bool) -> Made<Frame> {
+        Ok(Frame { room: room(room_val)?, slice: slice(slice_val)?, brief })
     }
 
     /// Refusal 5.

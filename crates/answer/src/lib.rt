@@ -42,6 +42,8 @@ pub enum Answer {
     Unbuilt {
         rule: u8,
     },
+    // 10: a number that is no sequence number, in a distance.
+    NoSequenceNumber,
 }
 
 // The values that the paper gives with an answer, in its order; those that it doesn't name are 0.
@@ -73,6 +75,7 @@ impl Answer {
             Answer::OutputTooLong => 7,
             Answer::NoRoom { needed: _ } => 8,
             Answer::Unbuilt { rule: _ } => 9,
+            Answer::NoSequenceNumber => 10,
         }
     }
 
@@ -95,6 +98,7 @@ impl Answer {
             Answer::OutputTooLong => Values(0, 0, 0),
             Answer::NoRoom { needed } => Values(needed, 0, 0),
             Answer::Unbuilt { rule } => Values(rule as usize, 0, 0),
+            Answer::NoSequenceNumber => Values(0, 0, 0),
         }
     }
 }

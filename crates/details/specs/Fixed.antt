@@ -9,6 +9,7 @@ use Rattle.rows.specs.Values.{absent, countValue, hexValue, ipv6Value, partValu
 use Rattle.ue_ip_address.specs.declared.UeIpAddress.{UeIpAddress}
 use Rattle.f_teid.specs.declared.Fteid.{Fteid}
 use Rattle.fseid.specs.declared.Fseid.{Fseid}
+use Rattle.header.specs.declared.Header.{Header}
 use Rattle.outer_header_creation.specs.declared.OuterHeaderCreation.{OuterHeaderCreation}
 use Rattle.outer_header_creation.specs.OuterHeaderCreation.{byteOf}
 
@@ -78,4 +79,19 @@ outerHeaderCreationValues o count len =
     ∷ numberValue (o .«port_number» .given) 2 (o .«port_number» .value)
     ∷ numberValue (o .ctag .given) 4 (o .ctag .value)
     ∷ numberValue (o .stag .given) 4 (o .stag .value)
+    ∷ []
+
+abbrev pub headerValues : Header → ℕ → ℕ → List (List ℕ)
+headerValues h count len =
+    countValue count
+    ∷ partValue 0 len
+    ∷ hexValue 1 0 (h .version)
+    ∷ flagValue (h .«has_fo»)
+    ∷ flagValue (h .«has_mp»)
+    ∷ flagValue (h .«has_seid»)
+    ∷ hexValue 1 0 (h .«message_type»)
+    ∷ hexValue 2 0 (h .length)
+    ∷ hexValue 8 0 (h .seid .0)
+    ∷ hexValue 4 0 (h .«sequence_number» .0)
+    ∷ hexValue 1 0 (h .«message_priority»)
     ∷ []

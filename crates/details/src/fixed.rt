@@ -1,11 +1,12 @@
 // The rows of records of fixed fields.
 use f_teid::Fteid;
 use fseid::Fseid;
+use header::Header;
 use outer_header_creation::OuterHeaderCreation;
 use rows::Value;
 use ue_ip_address::UeIpAddress;
 ghost use mathlib.Core.Path.{_≡_};
-ghost use Rattle.details.specs.Fixed.{ueIpAddressValues, fTeidValues, fseidValues, outerHeaderCreationValues};
+ghost use Rattle.details.specs.Fixed.{ueIpAddressValues, fTeidValues, fseidValues, outerHeaderCreationValues, headerValues};
 
 // Each row begins with what was counted, and with the written form, which stands at the front of the row's slice.
 pub const UE_IP_ADDRESS: [u8; 82] =
@@ -17,6 +18,9 @@ pub const FSEID: [u8; 45] = *b"0 # # | rec=S v6=# v4=# seid=# ipv4=# ipv6=#\n";
 
 pub const OUTER_HEADER_CREATION: [u8; 64] =
     *b"0 # # | rec=O flags=# teid=# ipv4=# ipv6=# port=# ctag=# stag=#\n";
+
+pub const HEADER: [u8; 67] =
+    *b"0 # # | rec=H ver=# fo=# mp=# s=# type=# len=# seid=# seq=# prio=#\n";
 
 pub fn ue_ip_address(record: UeIpAddress, count: usize, len: usize) -> [Value; 13]
     ensures { λ r. ⌜ r ≡ ueIpAddressValues «record» count len ⌝ }
@@ -88,5 +92,23 @@ pub fn outer_header_creation(record: OuterHeaderCreation, count: usize, len: usi
         rows::number16(port.given, port.value),
         rows::number32(ctag.given, ctag.value),
         rows::number32(stag.given, stag.value),
+    ]
+}
+
+pub fn header(record: Header, count: usize, len: usize) -> [Value; 11]
+    ensures { λ r. ⌜ r ≡ headerValues «record» count len ⌝ }
+{
+    [
+        rows::count(count),
+        rows::front(true, len),
+        rows::number8(true, record.version),
+        rows::flag(record.has_fo),
+        rows::flag(record.has_mp),
+        rows::flag(record.has_seid),
+        rows::number8(true, record.message_type),
+        rows::number16(true, record.length),
+        rows::number64(record.seid.value()),
+        rows::number32(true, record.sequence_number.value()),
+        rows::number8(true, record.message_priority),
     ]
 }

@@ -7,7 +7,8 @@ use mathlib.Core.List.{List, [], _∷_}
 use lib.Dec.{lit<}
 use lib.ListN.{length, getD, take, drop}
 use Rattle.octets.specs.Octets.{pick, bit, ifSet, flagByte, Bytes, field}
-use Rattle.octets.proofs.Laws.{ifSet-le, flags-kept, length-field, take-head, bytes-take, bytes-drop, number-again}
+use Rattle.octets.proofs.Laws.{ifSet-le, length-field, take-head, bytes-take, bytes-drop, number-again}
+use Rattle.octets.proofs.Masks.{flags-low}
 use Rattle.kind.specs.Layout.{clear}
 use Rattle.kind.specs.Kind.{Reads, Kind}
 use Rattle.kind.specs.Demand3.{Demand3, PrefixFree}
@@ -20,24 +21,24 @@ use Rattle.f_teid.proofs.Laws.{end4, chosen-ends, concrete-ends}
 
 -- payloads that are alike have the same four flags
 module _ (s t : List ℕ) (a : Alike keptBits (end layout s) s t) where
-  same-bit : (j : ℕ) → j < 4 → bit j (getD t 0 0) ≡ bit j (getD s 0 0)
-  same-bit j h = alike-bit j (omega arith) a (omega arith)
+  same-bit : (j : ℕ) → bit j (getD keptBits 0 0) ≡ true → bit j (getD t 0 0) ≡ bit j (getD s 0 0)
+  same-bit j h = alike-bit j h a (omega arith)
 
   pub same-rule : rule (getD t 0 0) ≡ rule (getD s 0 0)
-  same-rule = rw (same-bit 2 (lit< tt), same-bit 3 (lit< tt))
+  same-rule = rw (same-bit 2 refl, same-bit 3 refl)
 
   pub same-end : end layout t ≡ end layout s
-  same-end = rw (same-bit 0 (lit< tt), same-bit 1 (lit< tt), same-bit 2 (lit< tt), same-bit 3 (lit< tt))
+  same-end = rw (same-bit 0 refl, same-bit 1 refl, same-bit 2 refl, same-bit 3 refl)
 
   same-chosen : bit 2 (getD s 0 0) ≡ true → chosenRecord t ≡ chosenRecord s
   unfolding chosenRecord
   same-chosen ch =
       let e = chosen-ends s ch in
       rw (
-        same-bit 0 (lit< tt),
-        same-bit 1 (lit< tt),
-        same-bit 2 (lit< tt),
-        same-bit 3 (lit< tt),
+        same-bit 0 refl,
+        same-bit 1 refl,
+        same-bit 2 refl,
+        same-bit 3 refl,
         alike-field a 1 (ifSet (bit 3 (getD s 0 0)) 1) (omega arith) (omega arith),
       )
 
@@ -46,10 +47,10 @@ module _ (s t : List ℕ) (a : Alike keptBits (end layout s) s t) where
   same-concrete ch =
       let e = concrete-ends s ch in
       rw (
-        same-bit 0 (lit< tt),
-        same-bit 1 (lit< tt),
-        same-bit 2 (lit< tt),
-        same-bit 3 (lit< tt),
+        same-bit 0 refl,
+        same-bit 1 refl,
+        same-bit 2 refl,
+        same-bit 3 refl,
         alike-field a 1 4 (omega arith) (omega arith),
         alike-field a 5 (ifSet (bit 0 (getD s 0 0)) 4) (omega arith) (omega arith),
         alike-field a (end4 s) (ifSet (bit 1 (getD s 0 0)) 16) (omega arith) (omega arith),
@@ -59,8 +60,8 @@ module _ (s t : List ℕ) (a : Alike keptBits (end layout s) s t) where
   same-record = go (bit 2 (getD s 0 0)) refl
     where
       go : (c : Bool) → bit 2 (getD s 0 0) ≡ c → recordOf t ≡ recordOf s
-      go true ch = rw (same-bit 2 (lit< tt), ch) (same-chosen ch)
-      go false ch = rw (same-bit 2 (lit< tt), ch) (same-concrete ch)
+      go true ch = rw (same-bit 2 refl, ch) (same-chosen ch)
+      go false ch = rw (same-bit 2 refl, ch) (same-concrete ch)
 
 -- The written form with CHID as it stands: of any payload that has its fields, what stands there, forbidden flags or not.
 unfoldable pub flat : Value → List ℕ
@@ -74,7 +75,7 @@ module _ (s : List ℕ) (b : Bytes s) (h : end layout s ≤ length s) where
       let e = chosen-ends s ch in
       let u = ifSet (bit 3 f) 1 in
       rw (
-        flags-kept 4 f,
+        flags-low 4 f,
         e,
         take-head u s (omega arith),
         ch,
@@ -86,7 +87,7 @@ module _ (s : List ℕ) (b : Bytes s) (h : end layout s ≤ length s) where
   flat-concrete ch =
       let f = getD s 0 0 in
       let e = concrete-ends s ch in
-      rw (e, ← form-again s 4 (bit 0 f) (bit 1 f) b (omega arith), flags-kept 4 f, ch)
+      rw (e, ← form-again s 4 (bit 0 f) (bit 1 f) b (omega arith), flags-low 4 f, ch)
 
   pub flat-again : flat (meaning (recordOf s)) ≡ clear keptBits (take (end layout s) s)
   flat-again = go (bit 2 (getD s 0 0)) refl

@@ -62,9 +62,9 @@ layout = record { head = 1; rule = rule; fields = fields }
 abbrev pub maxLen : ℕ
 maxLen = 1 + 4 + 4 + 16
 
--- bits 4 to 7 of the flags are ignored: four bits of the first byte are kept
+-- bits 4 to 7 of the flags are ignored: bits 0 to 3 of the first byte are kept
 abbrev pub keptBits : List ℕ
-keptBits = 4 ∷ []
+keptBits = 0x0F ∷ []
 
 -- no TEID, addresses that are given, and absent ones
 abbrev pub noTeid : Teid

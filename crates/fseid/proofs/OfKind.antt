@@ -5,7 +5,8 @@ use mathlib.Core.Path.{_≡_, refl, ap}
 use mathlib.Core.List.{List}
 use lib.ListN.{length, getD, take}
 use Rattle.octets.specs.Octets.{bit, ifSet, Bytes}
-use Rattle.octets.proofs.Laws.{ifSet-le, flags-kept}
+use Rattle.octets.proofs.Laws.{ifSet-le}
+use Rattle.octets.proofs.Masks.{flags-low}
 use Rattle.kind.specs.Layout.{clear}
 use Rattle.kind.specs.Kind.{Reads, Kind}
 use Rattle.kind.specs.Demand3.{Demand3, PrefixFree}
@@ -22,10 +23,10 @@ end4 s = 9 + ifSet (bit 1 (getD s 0 0)) 4
 -- payloads that are alike have the same two flags
 module _ (s t : List ℕ) (a : Alike keptBits (end layout s) s t) where
   same-v4 : bit 1 (getD t 0 0) ≡ bit 1 (getD s 0 0)
-  same-v4 = alike-bit 1 (omega arith) a (omega arith)
+  same-v4 = alike-bit 1 refl a (omega arith)
 
   same-v6 : bit 0 (getD t 0 0) ≡ bit 0 (getD s 0 0)
-  same-v6 = alike-bit 0 (omega arith) a (omega arith)
+  same-v6 = alike-bit 0 refl a (omega arith)
 
   pub same-end : end layout t ≡ end layout s
   same-end = rw (same-v4, same-v6)
@@ -46,7 +47,7 @@ unfolding wire meaning recordOf clear
 rewritten s b h =
     let f = getD s 0 0 in
     let sum : end layout s ≡ end4 s + ifSet (bit 0 f) 16 = omega arith in
-    rw (sum, ← form-again s 8 (bit 1 f) (bit 0 f) b (omega arith), flags-kept 2 f)
+    rw (sum, ← form-again s 8 (bit 1 f) (bit 0 f) b (omega arith), flags-low 2 f)
 
 -- the reader follows the layout
 pub follows : Follows reader layout (λ s. meaning (recordOf s))

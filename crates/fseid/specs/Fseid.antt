@@ -38,9 +38,9 @@ layout = record { head = 9; rule = λ b. 0; fields = λ b. wanted 1 (bit 1 b) 4 
 abbrev pub maxLen : ℕ
 maxLen = 9 + 4 + 16
 
--- bits 2 to 7 of the flags are ignored: two bits of the first byte are kept
+-- bits 2 to 7 of the flags are ignored: bits 0 and 1 of the first byte are kept
 abbrev pub keptBits : List ℕ
-keptBits = 2 ∷ []
+keptBits = 0x03 ∷ []
 
 -- the record of a payload that has all the fields
 unfoldable pub recordOf : List ℕ → Fseid

@@ -18,7 +18,7 @@ pub record Follows {Value : Type 0} (reader : Reader Value) (layout : Layout) (v
   pub on-accepts : (s : List ℕ) (n : ℕ) → outcome layout s ≡ accepts n → (reader .answer s ≡ Done) × (reader .used s ≡ n) × (reader .value s ≡ valueOf s)
   pub on-refuses : (s : List ℕ) (a : Answer) → outcome layout s ≡ refuses a → reader .answer s ≡ a
 
--- kept: how many low bits of each of the first bytes count
+-- keptBits: for each of the first bytes, a mask of its bits that count
 pub record Fixed : Type 1 where
   pub Value : Type 0
   pub reader : Reader Value

@@ -1,19 +1,19 @@
 -- Laws of the walk over a layout's fields, and of cleared payloads. No contract cites this file.
-use Prim.Native.Nat.{ℕ, zero, suc, _+_, _-_, _/_, _%_, _^_, _≤_, _<_}
+use Prim.Native.Nat.{ℕ, zero, suc, _+_, _≤_, _<_}
 use native.Mathlib.Omega.{arith}
-use native.Mathlib.Nat.{add-zero, add-assoc, lt-of-le-of-lt, mod-le, mod-mod}
-use native.Mathlib.Numerals.{add-one}
+use native.Mathlib.Nat.{add-zero, add-assoc, lt-of-le-of-lt}
 use mathlib.Core.Path.{_≡_, refl, sym, ap, _∙_}
 use mathlib.Core.Bool.{Bool, true, false}
 use mathlib.Core.List.{List, [], _∷_}
-use lib.Dec.{leb, eqb}
+use lib.Bits.{bitAnd, and-le-l}
+use lib.Dec.{leb}
 use lib.ListN.{length, getD, take}
-use lib.Pow.{field as bits, mod-mod-pow}
 use borrow.Author.Tests.{le-leb, lt-leb, leb-true}
 use Rattle.answer.specs.declared.Answer.{Answer}
 use Rattle.answer.specs.declared.Answer.the-variants.{Done, Short, Flags, InputTooLong}
 use Rattle.octets.specs.Octets.{pick, bit, ifSet, Bytes, field}
 use Rattle.octets.proofs.Laws.{field-take}
+use Rattle.octets.proofs.Masks.{bit-kept, and-and}
 use Rattle.kind.specs.Layout.{Wanted, wanted, Layout, Outcome, accepts, refuses, walk, unlessBroken, outcome, clear}
 
 -- ---- the walk
@@ -120,64 +120,55 @@ module _ (l : Layout) (s : List ℕ) where
       go false u q = let z : _≡_ {A = ℕ} 0 1 = cc in omega arith
 
 -- ---- cleared payloads
-pub length-clear : (ks s : List ℕ) → length (clear ks s) ≡ length s
+pub length-clear : (ms s : List ℕ) → length (clear ms s) ≡ length s
 unfolding clear
 length-clear [] s = refl
-length-clear (k ∷ ks) [] = refl
-length-clear (k ∷ ks) (b ∷ s) = ap suc (length-clear ks s)
+length-clear (m ∷ ms) [] = refl
+length-clear (m ∷ ms) (b ∷ s) = ap suc (length-clear ms s)
 
-pub bytes-clear : (ks s : List ℕ) → Bytes s → Bytes (clear ks s)
+pub bytes-clear : (ms s : List ℕ) → Bytes s → Bytes (clear ms s)
 unfolding clear
 bytes-clear [] s h = h
-bytes-clear (k ∷ ks) [] h = tt
-bytes-clear (k ∷ ks) (b ∷ s) h = (lt-of-le-of-lt (mod-le b (2 ^ k)) (h .0), bytes-clear ks s (h .1))
+bytes-clear (m ∷ ms) [] h = tt
+bytes-clear (m ∷ ms) (b ∷ s) h = (lt-of-le-of-lt (and-le-l b m) (h .0), bytes-clear ms s (h .1))
 
-pub clear-clear : (ks s : List ℕ) → clear ks (clear ks s) ≡ clear ks s
+pub clear-clear : (ms s : List ℕ) → clear ms (clear ms s) ≡ clear ms s
 unfolding clear
 clear-clear [] s = refl
-clear-clear (k ∷ ks) [] = refl
-clear-clear (k ∷ ks) (b ∷ s) = rw (clear-clear ks s, mod-mod b (2 ^ k))
+clear-clear (m ∷ ms) [] = refl
+clear-clear (m ∷ ms) (b ∷ s) = rw (clear-clear ms s, and-and b m)
 
 -- behind the first bytes all stands as it was
-pub field-clear : (ks : List ℕ) (at w : ℕ) (s : List ℕ) → length ks ≤ at → field (clear ks s) at w ≡ field s at w
+pub field-clear : (ms : List ℕ) (at w : ℕ) (s : List ℕ) → length ms ≤ at → field (clear ms s) at w ≡ field s at w
 unfolding clear
 field-clear [] at w s h = refl
-field-clear (k ∷ ks) zero w s h = absurd (omega arith)
-field-clear (k ∷ ks) (suc at) w [] h = refl
-field-clear (k ∷ ks) (suc at) w (b ∷ s) h = field-clear ks at w s (omega arith)
+field-clear (m ∷ ms) zero w s h = absurd (omega arith)
+field-clear (m ∷ ms) (suc at) w [] h = refl
+field-clear (m ∷ ms) (suc at) w (b ∷ s) h = field-clear ms at w s (omega arith)
 
-first-clear : (k : ℕ) (ks : List ℕ) (n : ℕ) (s : List ℕ) → 0 < n → n ≤ length s → getD (clear (k ∷ ks) (take n s)) 0 0 ≡ getD s 0 0 % 2 ^ k
+first-clear : (m : ℕ) (ms : List ℕ) (n : ℕ) (s : List ℕ) → 0 < n → n ≤ length s → getD (clear (m ∷ ms) (take n s)) 0 0 ≡ bitAnd (getD s 0 0) m
 unfolding clear
-first-clear k ks zero s h g = absurd (omega arith)
-first-clear k ks (suc n) [] h g = absurd (omega arith)
-first-clear k ks (suc n) (b ∷ s) h g = refl
-
--- a kept bit is as it was
-pub bit-kept : (j k b : ℕ) → j < k → bit j (b % 2 ^ k) ≡ bit j b
-bit-kept j k b h =
-    let e : k ≡ suc (k - suc j) + j = omega arith in
-    ap (λ (i : ℕ). bit j (b % 2 ^ i)) e ∙ ap (λ (x : ℕ). eqb x 1) (ap (λ (x : ℕ). x % 2) (bits b (suc (k - suc j)) j) ∙ low (k - suc j))
-  where
-    low : (m : ℕ) → b / 2 ^ j % 2 ^ suc m % 2 ≡ b / 2 ^ j % 2
-    low m = rw (← add-one m) (mod-mod-pow (b / 2 ^ j) m 1)
+first-clear m ms zero s h g = absurd (omega arith)
+first-clear m ms (suc n) [] h g = absurd (omega arith)
+first-clear m ms (suc n) (b ∷ s) h g = refl
 
 -- two payloads of at least n bytes that are equal once cut there and cleared
-pub record Alike (ks : List ℕ) (n : ℕ) (s t : List ℕ) : Type 0 where
+pub record Alike (ms : List ℕ) (n : ℕ) (s t : List ℕ) : Type 0 where
   pub left : n ≤ length s
   pub right : n ≤ length t
-  pub equal : clear ks (take n t) ≡ clear ks (take n s)
+  pub equal : clear ms (take n t) ≡ clear ms (take n s)
 
-module _ {ks : List ℕ} {n : ℕ} {s t : List ℕ} where
-  pub alike-field : Alike ks n s t → (at w : ℕ) → length ks ≤ at → at + w ≤ n → field t at w ≡ field s at w
+module _ {ms : List ℕ} {n : ℕ} {s t : List ℕ} where
+  pub alike-field : Alike ms n s t → (at w : ℕ) → length ms ≤ at → at + w ≤ n → field t at w ≡ field s at w
   alike-field a at w h g =
       sym (field-take at w n t g)
-      ∙ sym (field-clear ks at w (take n t) h)
+      ∙ sym (field-clear ms at w (take n t) h)
       ∙ ap (λ (l : List ℕ). field l at w) (a .equal)
-      ∙ field-clear ks at w (take n s) h
+      ∙ field-clear ms at w (take n s) h
       ∙ field-take at w n s g
 
-  pub alike-bit : {k : ℕ} (j : ℕ) → j < k → Alike (k ∷ ks) n s t → 0 < n → bit j (getD t 0 0) ≡ bit j (getD s 0 0)
-  alike-bit {k} j p a h =
-      sym (bit-kept j k (getD t 0 0) p)
-      ∙ ap (bit j) (sym (first-clear k ks n t h (a .right)) ∙ ap (λ (l : List ℕ). getD l 0 0) (a .equal) ∙ first-clear k ks n s h (a .left))
-      ∙ bit-kept j k (getD s 0 0) p
+  pub alike-bit : {m : ℕ} (j : ℕ) → bit j m ≡ true → Alike (m ∷ ms) n s t → 0 < n → bit j (getD t 0 0) ≡ bit j (getD s 0 0)
+  alike-bit {m} j p a h =
+      sym (bit-kept j (getD t 0 0) m p)
+      ∙ ap (bit j) (sym (first-clear m ms n t h (a .right)) ∙ ap (λ (l : List ℕ). getD l 0 0) (a .equal) ∙ first-clear m ms n s h (a .left))
+      ∙ bit-kept j (getD s 0 0) m p

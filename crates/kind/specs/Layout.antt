@@ -1,8 +1,9 @@
 -- Fields in a row, and a walk over them: the layouts of document 01 that have fixed fields.
-use Prim.Native.Nat.{ℕ, zero, suc, _+_, _%_, _^_}
+use Prim.Native.Nat.{ℕ, zero, suc, _+_}
 use mathlib.Core.Bool.{Bool}
 use mathlib.Core.List.{List, [], _∷_}
 use lib.ListN.{length, getD}
+use lib.Bits.{bitAnd}
 use lib.Dec.{leb}
 use Rattle.answer.specs.declared.Answer.{Answer}
 use Rattle.answer.specs.declared.Answer.the-variants.{Short, Flags, InputTooLong}
@@ -43,8 +44,8 @@ outcome l s =
     (pick (leb (l .head) n) (unlessBroken byte (l .rule byte) (walk n (l .head) (l .fields byte))) (refuses (Short 0 (l .head) n)))
     (refuses (InputTooLong n))
 
--- a payload with only some low bits of its first bytes kept, so many of each, and the others cleared
+-- a payload with only some bits of its first bytes kept, those of a mask for each, and the others cleared
 unfoldable pub clear : List ℕ → List ℕ → List ℕ
 clear [] s = s
-clear (k ∷ ks) [] = []
-clear (k ∷ ks) (b ∷ s) = b % 2 ^ k ∷ clear ks s
+clear (m ∷ ms) [] = []
+clear (m ∷ ms) (b ∷ s) = bitAnd b m ∷ clear ms s

@@ -1,13 +1,14 @@
 -- Outer Header Creation is a kind of fixed fields. No contract cites this file.
-use Prim.Native.Nat.{ℕ, _+_, _%_, _^_, _≤_, _<_}
+use Prim.Native.Nat.{ℕ, _+_, _≤_, _<_}
 use native.Mathlib.Omega.{arith}
-use native.Mathlib.Nat.{mod-one}
 use mathlib.Core.Path.{_≡_, refl, ap, _∙_}
-use mathlib.Core.Bool.{Bool}
+use mathlib.Core.Bool.{Bool, true}
 use mathlib.Core.List.{List, [], _∷_, flatten}
+use lib.Bits.{bitAnd, and-zero-r}
 use lib.ListN.{length, getD, take, drop}
 use Rattle.octets.specs.Octets.{bit, ifSet, Bytes, field, bigEndianBytes, numberIf, u16Of, u32Of, u16Meaning, u32Meaning}
-use Rattle.octets.proofs.Laws.{ifSet-le, flags-kept, length-field, bytes-take, bytes-drop, ipv4-bytes, ipv6-bytes, u16-bytes, u32-bytes}
+use Rattle.octets.proofs.Laws.{ifSet-le, length-field, bytes-take, bytes-drop, ipv4-bytes, ipv6-bytes, u16-bytes, u32-bytes}
+use Rattle.octets.proofs.Masks.{flags-low}
 use Rattle.kind.specs.Layout.{clear}
 use Rattle.kind.specs.Kind.{Reads, Kind}
 use Rattle.kind.specs.Demand3.{Demand3, PrefixFree}
@@ -26,20 +27,20 @@ sent s = asked (flagsOf (getD s 0 0))
 
 -- payloads that are alike have the same flags
 module _ (s t : List ℕ) (a : Alike keptBits (end layout s) s t) where
-  same-bit : (j : ℕ) → j < 8 → bit j (getD t 0 0) ≡ bit j (getD s 0 0)
+  same-bit : (j : ℕ) → bit j (getD keptBits 0 0) ≡ true → bit j (getD t 0 0) ≡ bit j (getD s 0 0)
   same-bit j h = alike-bit j h a (omega arith)
 
   same-flags : flagsOf (getD t 0 0) ≡ flagsOf (getD s 0 0)
   same-flags =
       rw (
-        same-bit 0 (omega arith),
-        same-bit 1 (omega arith),
-        same-bit 2 (omega arith),
-        same-bit 3 (omega arith),
-        same-bit 4 (omega arith),
-        same-bit 5 (omega arith),
-        same-bit 6 (omega arith),
-        same-bit 7 (omega arith),
+        same-bit 0 refl,
+        same-bit 1 refl,
+        same-bit 2 refl,
+        same-bit 3 refl,
+        same-bit 4 refl,
+        same-bit 5 refl,
+        same-bit 6 refl,
+        same-bit 7 refl,
       )
 
   pub same-end : end layout t ≡ end layout s
@@ -87,9 +88,9 @@ module _ (s : List ℕ) (b : Bytes s) (f : Bool) (at w : ℕ) (h : at + ifSet f 
   again-tag p q = back-given f w part long _ (u32-bytes f w part each p long q)
 
 -- of the first two bytes the flags are kept and the spare byte is cleared
-first-cleared : (x y : ℕ) (bs : List ℕ) → clear keptBits (x ∷ y ∷ bs) ≡ x % 2 ^ 8 ∷ 0 ∷ bs
+first-cleared : (x y : ℕ) (bs : List ℕ) → clear keptBits (x ∷ y ∷ bs) ≡ bitAnd x 0xFF ∷ 0 ∷ bs
 unfolding clear
-first-cleared x y bs = ap (λ (z : ℕ). x % 2 ^ 8 ∷ z ∷ bs) (mod-one y)
+first-cleared x y bs = ap (λ (z : ℕ). bitAnd x 0xFF ∷ z ∷ bs) (and-zero-r y)
 
 pub rewritten : (s : List ℕ) → Bytes s → end layout s ≤ length s → wire (meaning (recordOf s)) ≡ clear keptBits (take (end layout s) s)
 unfolding wire meaning recordWith teidOf endsOf flatten
@@ -98,7 +99,7 @@ rewritten s b h =
       take-pieces 2 (fieldsOf (sent s)) s,
       first-two s (omega arith),
       first-cleared (getD s 0 0) (getD s 1 0) (flatten (pieces 2 (fieldsOf (sent s)) s)),
-      flags-kept 8 (getD s 0 0),
+      flags-low 8 (getD s 0 0),
       again-teid s b (sent s .teid) 2 4 (omega arith) (omega arith) (omega arith),
       again-address s b (sent s .ipv4) (ends s .teid) 4 (omega arith) _ (ipv4-bytes (sent s .ipv4) _),
       again-address s b (sent s .ipv6) (ends s .ipv4) 16 (omega arith) _ (ipv6-bytes (sent s .ipv6) _),

@@ -119,7 +119,7 @@ maxLen = 2 + 4 + 4 + 16 + 2 + 3 + 3
 
 -- all of byte 0 is kept, byte 1 is ignored
 abbrev pub keptBits : List ℕ
-keptBits = 8 ∷ 0 ∷ []
+keptBits = 0xFF ∷ 0x00 ∷ []
 
 -- the TEID of these bytes, absent (and 0) where there are none
 unfoldable pub teidOf : List ℕ → MaybeTeid

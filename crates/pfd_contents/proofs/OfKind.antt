@@ -1,10 +1,11 @@
 -- PFD Contents is a kind. No contract cites this file.
-use Prim.Native.Nat.{ℕ, zero, suc, _+_, _-_, _%_, _≤_}
+use Prim.Native.Nat.{ℕ, zero, suc, _+_, _-_, _≤_}
 use native.Mathlib.Omega.{arith}
 use mathlib.Core.Path.{_≡_, refl, sym, ap, ap₂, _∙_}
 use mathlib.Core.Bool.{Bool, true, false, _||_}
 use mathlib.Core.List.{List, [], _∷_, _++_}
 use mathlib.Core.Option.{none}
+use lib.Bits.{bitAnd, and-mask, and-zero-r}
 use lib.Dec.{leb}
 use lib.ListN.{length, getD, take}
 use lib.Seq.{length-take-le, take-all}
@@ -205,7 +206,7 @@ long-enough s h k = rw (le-leb _ _ h, le-leb _ _ k)
 
 -- the flags whole and the spare byte cleared
 abbrev keptBits : List ℕ
-keptBits = 8 ∷ 0 ∷ []
+keptBits = 0xFF ∷ 0x00 ∷ []
 
 cleared : (s : List ℕ) (n : ℕ) → Bytes s → 2 ≤ n → n ≤ length s → clear keptBits (take n s) ≡ getD s 0 0 ∷ 0 ∷ field s 2 (n - 2)
 unfolding clear
@@ -214,8 +215,8 @@ cleared (f ∷ []) n b h k = absurd (omega arith)
 cleared (f ∷ x ∷ s) zero b h k = absurd (omega arith)
 cleared (f ∷ x ∷ s) (suc zero) b h k = absurd (omega arith)
 cleared (f ∷ x ∷ s) (suc (suc n)) b h k =
-    let e : f % 256 ≡ f = omega (arith, b .0) in
-    let g : x % 1 ≡ 0 = omega arith in
+    let e : bitAnd f 0xFF ≡ f = omega (arith, and-mask f 8, b .0) in
+    let g : bitAnd x 0x00 ≡ 0 = and-zero-r x in
     let z : suc (suc n) - 2 ≡ n = omega arith in
     rw (e, g, z)
 

@@ -1,7 +1,8 @@
 -- The values of a row: four numbers, the form first, then what that takes.
-use Prim.Native.Nat.{ℕ}
+use Prim.Native.Nat.{ℕ, suc}
 use mathlib.Core.List.{List, [], _∷_}
 use lib.ListN.{take, drop}
+use lib.IntN.{ℤ, pos, negsuc}
 use Rattle.octets.specs.Octets.{bigEndian}
 
 -- what isn't given, and what isn't shown
@@ -17,6 +18,11 @@ countValue n = 2 ∷ n ∷ 0 ∷ 0 ∷ []
 
 abbrev pub signedValue : ℕ → ℕ → List ℕ
 signedValue sign n = 3 ∷ sign ∷ n ∷ 0 ∷ []
+
+-- an integer: such a number, behind a minus sign where it is below 0 (`negsuc n` is -1 - n)
+abbrev pub integerValue : ℤ → List ℕ
+integerValue (pos n) = countValue n
+integerValue (negsuc n) = signedValue 0x2D (suc n)
 
 -- the last bytes of two numbers of eight bytes each, so many, in hex
 abbrev pub hexValue : ℕ → ℕ → ℕ → List ℕ

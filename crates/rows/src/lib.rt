@@ -18,7 +18,7 @@ ghost use Prim.Native.Nat.{suc, _+_, _≤_, min};
 ghost use lib.ListN.{length, drop, getD};
 ghost use Rattle.bytes.specs.Bytes.{indexOf};
 ghost use Rattle.octets.specs.Octets.{pick, ifSet, bigEndian};
-ghost use Rattle.rows.specs.Values.{absent, nothing, countValue, signedValue, hexValue, ipv6Value, partValue, textValue, listValue};
+ghost use Rattle.rows.specs.Values.{absent, nothing, countValue, signedValue, integerValue, hexValue, ipv6Value, partValue, textValue, listValue};
 ghost use Rattle.rows.specs.Row.{pieces, other, numbered, ends, puts};
 
 // A value of a row: its form, and what that takes.
@@ -53,6 +53,16 @@ pub fn signed(is_shown: bool, sign: u8, n: usize) -> Value
     ensures { λ r. ⌜ r ≡ pick «is_shown» (signedValue sign n) nothing ⌝ }
 {
     one_of(is_shown, [SIGNED, sign as u64, n as u64, 0], NOTHING)
+}
+
+// A number in decimal, behind a minus sign where it is below 0. What is left of -1 without such a number can't overflow.
+pub fn integer(x: i32) -> Value
+    ensures { λ r. ⌜ r ≡ integerValue x ⌝ }
+{
+    if x < 0 {
+        return [SIGNED, b'-' as u64, (-1 - x) as u64 + 1, 0];
+    }
+    [COUNT, x as u64, 0, 0]
 }
 
 // A number of so many bytes, where it is given.

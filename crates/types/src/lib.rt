@@ -1,5 +1,6 @@
-// Identifiers, each a type of its own: one is never given where the other is wanted.
+// Identifiers and sequence numbers, each a type of its own: one is never given where another is wanted.
 ghost use mathlib.Core.Path.{_≡_};
+ghost use Prim.Native.Nat.{_%_, _^_};
 ghost use mathlib.Core.Bool.{true};
 
 // A tunnel endpoint identifier.
@@ -7,6 +8,9 @@ pub struct Teid(pub u32);
 
 // A session endpoint identifier.
 pub struct Seid(pub u64);
+
+// A message's sequence number: 24 bits, held in 32.
+pub struct SequenceNumber(pub u32);
 
 // A tunnel endpoint identifier that may be absent.
 pub struct MaybeTeid {
@@ -53,5 +57,23 @@ impl Seid {
     {
         let value = self.0;
         value
+    }
+}
+
+impl SequenceNumber {
+    pub const MAX: u32 = 16777215;
+
+    // The low 24 bits.
+    pub fn new(value: u32) -> SequenceNumber
+        ensures { λ r. ⌜ r ≡ record { 0 = value % 2 ^ 24 } ⌝ }
+    {
+        SequenceNumber(value % (SequenceNumber::MAX + 1))
+    }
+
+    pub fn value(self) -> u32
+        ensures { λ r. ⌜ r ≡ self .0 ⌝ }
+    {
+        let number = self.0;
+        number
     }
 }

@@ -1,13 +1,14 @@
 -- UE IP Address is a kind of fixed fields. No contract cites this file.
 use Prim.Native.Nat.{ℕ, _+_, _≤_, _<_}
 use native.Mathlib.Omega.{arith}
-use mathlib.Core.Path.{_≡_, sym, ap}
+use mathlib.Core.Path.{_≡_, refl, sym, ap}
 use mathlib.Core.Bool.{Bool, true, false, _&&_, false≢true}
 use mathlib.Core.List.{List, flatten, append-nil}
 use lib.Dec.{lit<}
 use lib.ListN.{length, getD, take}
 use Rattle.octets.specs.Octets.{bit, ifSet, Bytes, field}
-use Rattle.octets.proofs.Laws.{ifSet-le, flags-kept, length-field, take-first, bytes-take, bytes-drop, ipv4-bytes, ipv6-bytes, u8-bytes}
+use Rattle.octets.proofs.Laws.{ifSet-le, length-field, take-first, bytes-take, bytes-drop, ipv4-bytes, ipv6-bytes, u8-bytes}
+use Rattle.octets.proofs.Masks.{flags-low}
 use Rattle.kind.specs.Layout.{clear}
 use Rattle.kind.specs.Kind.{Reads, Kind}
 use Rattle.kind.specs.Demand3.{Demand3, PrefixFree}
@@ -30,27 +31,27 @@ endBits s = end6 s + ifSet (bit 3 (getD s 0 0)) 1
 
 -- payloads that are alike have the same seven flags
 module _ (s t : List ℕ) (a : Alike keptBits (end layout s) s t) where
-  same-bit : (j : ℕ) → j < getD keptBits 0 0 → bit j (getD t 0 0) ≡ bit j (getD s 0 0)
+  same-bit : (j : ℕ) → bit j (getD keptBits 0 0) ≡ true → bit j (getD t 0 0) ≡ bit j (getD s 0 0)
   same-bit j h = alike-bit j h a (omega arith)
 
   pub same-rule : brokenRule (getD t 0 0) ≡ brokenRule (getD s 0 0)
   unfolding brokenRule
-  same-rule = rw (same-bit 0 (lit< tt), same-bit 1 (lit< tt), same-bit 3 (lit< tt), same-bit 4 (lit< tt), same-bit 5 (lit< tt), same-bit 6 (lit< tt))
+  same-rule = rw (same-bit 0 refl, same-bit 1 refl, same-bit 3 refl, same-bit 4 refl, same-bit 5 refl, same-bit 6 refl)
 
   pub same-end : end layout t ≡ end layout s
-  same-end = rw (same-bit 0 (lit< tt), same-bit 1 (lit< tt), same-bit 3 (lit< tt), same-bit 6 (lit< tt))
+  same-end = rw (same-bit 0 refl, same-bit 1 refl, same-bit 3 refl, same-bit 6 refl)
 
   pub same-record : recordOf t ≡ recordOf s
   unfolding recordOf
   same-record =
       rw (
-        same-bit 0 (lit< tt),
-        same-bit 1 (lit< tt),
-        same-bit 2 (lit< tt),
-        same-bit 3 (lit< tt),
-        same-bit 4 (lit< tt),
-        same-bit 5 (lit< tt),
-        same-bit 6 (lit< tt),
+        same-bit 0 refl,
+        same-bit 1 refl,
+        same-bit 2 refl,
+        same-bit 3 refl,
+        same-bit 4 refl,
+        same-bit 5 refl,
+        same-bit 6 refl,
         alike-field a 1 (ifSet (bit 1 (getD s 0 0)) 4) (omega arith) (omega arith),
         alike-field a (end4 s) (ifSet (bit 0 (getD s 0 0)) 16) (omega arith) (omega arith),
         alike-field a (end6 s) (ifSet (bit 3 (getD s 0 0)) 1) (omega arith) (omega arith),
@@ -69,7 +70,7 @@ rewritten s b h =
       take-pieces 1 (layout .fields f) s,
       take-first 0 s (omega arith),
       append-nil,
-      flags-kept 7 f,
+      flags-low 7 f,
       ipv4-bytes (bit 1 f) (field s 1 u4) (length-field 1 u4 s (omega arith)),
       ipv6-bytes (bit 0 f) (field s (end4 s) u6) (length-field (end4 s) u6 s (omega arith)),
       u8-bytes (bit 3 f) 1 (field s (end6 s) ub) (bytes-take ub _ (bytes-drop (end6 s) s b)) (lit< tt) (length-field (end6 s) ub s (omega arith)) (omega arith),

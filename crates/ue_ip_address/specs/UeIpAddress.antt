@@ -80,9 +80,9 @@ layout =
 abbrev pub maxLen : ℕ
 maxLen = 1 + 4 + 16 + 1
 
--- bit 7 of the flags is ignored: seven bits of the first byte are kept
+-- bit 7 of the flags is ignored: bits 0 to 6 of the first byte are kept
 abbrev pub keptBits : List ℕ
-keptBits = 7 ∷ []
+keptBits = 0x7F ∷ []
 
 -- the record of a payload that has all the fields
 unfoldable pub recordOf : List ℕ → UeIpAddress
