@@ -1,8 +1,8 @@
 """The named ways in which a peer's answer differs from ours. Used by peers/compare.
 
-A class is a function. It is given a Case, whose payload is empty for ALL-ZERO alone, and returns the names of the
-differences that it accounts for. It must check by the payload's bytes that they are of the shape it says. A difference
-that no class takes makes peers/compare fail.
+A class is a function. It is given a Case, whose payload is empty for ALL-ZERO and H-EMPTY alone, and returns the names of
+the differences that it accounts for. It must check by the payload's bytes that they are of the shape it says. A difference
+that no class takes makes peers/compare fail. The payload of a message header is a whole datagram.
 """
 
 CLASSES = []
@@ -14,7 +14,8 @@ class Class:
 
 
 def differs(name, kinds, here, there, standard):
-    """Names a class: what we do (which is what document 01 says), what the peer does, and who is right by the standard."""
+    """Names a class: what we do (which is what document 01 says, of headers request K1), what the peer does, and who is
+    right by the standard."""
 
     def add(check):
         CLASSES.append(Class(name, kinds, check, (here, there, standard)))
@@ -489,9 +490,196 @@ def p_shown(c):
     return took
 
 
+# ---------------------------------------------------------------- message headers
+
+def header_size(datagram):
+    return 16 if datagram[0] & 1 else 8
+
+
+def header_fields(datagram):
+    """All but the priority, by their places."""
+    if not datagram:
+        return {}
+    first, n = datagram[0], header_size(datagram)
+    places = {"type": (1, 2), "len": (2, 4), "seid": (4, n - 4), "seq": (n - 4, n - 1)}
+    fields = {"ver": f"{first >> 5:02X}", "fo": str(first >> 2 & 1), "mp": str(first >> 1 & 1), "s": str(first & 1)}
+    fields.update({name: datagram[a:b].hex().upper() for name, (a, b) in places.items()})
+    fields["seq"] = fields["seq"].rjust(8, "0")
+    return fields if first & 1 else {**fields, "seid": "-"}
+
+
+def whole_ies(body):
+    while body:
+        if len(body) < 4 + int.from_bytes(body[2:4], "big"):
+            return False
+        body = body[4 + int.from_bytes(body[2:4], "big"):]
+    return True
+
+
+class Walk:
+    """A datagram as tshark walks it, message by message: how many it begins, the bytes that it says are left behind one
+    without FO, what stops it if something does, and whether that is in the first message."""
+
+    def __init__(self, datagram):
+        self.begun, self.left, self.fault, at = 0, [], None, 0
+        while at < len(datagram) and not self.fault:
+            self.first, rest = at == 0, datagram[at:]
+            at += self.message(rest)
+            if not self.fault and at < len(datagram) and not rest[0] & 4:
+                self.left.append(str(len(datagram) - at))
+
+    def message(self, rest):
+        if len(rest) < 4:
+            self.fault = "cut"
+            return 0
+        size, header = int.from_bytes(rest[2:4], "big") + 4, header_size(rest)
+        self.begun += size % 65536 > 1
+        faults = [("wrap", size > 65535), ("cut", len(rest) < header), ("short", size < header), ("long", size > len(rest)),
+                  ("body", not whole_ies(rest[header:size])), ("nothing", size == len(rest) and rest[0] & 4)]
+        self.fault = next((name for name, is_so in faults if is_so), None)
+        return size
+
+
+def walked(c):
+    """The walk, where tshark read the header and says of the rest what the walk does."""
+    if c.peer == "tshark" and c.theirs.verdict == "read":
+        w = Walk(c.payload)
+        said = int(c.notes.get("messages", 1)), c.notes.get("left", ""), "malformed" in c.notes
+        return w if said == (w.begun, ",".join(w.left), bool(w.fault)) else None
+
+
+@differs("H-EMPTY", "H", "refusal 1", "nothing: a datagram without a byte is UDP alone", "all: there is no message")
+def h_empty(c):
+    if c.payload == b"" and c.theirs.verdict == "none":
+        return {"verdict"}
+
+
+def last_byte(c, priority, note):
+    """The header's last byte is the priority here, and there this part of it, and the rest is this note."""
+    if c.ours.number or c.theirs.verdict != "read":
+        return False
+    byte = c.payload[header_size(c.payload) - 1]
+    there = f"{byte >> 4:02X}" if priority else "-", byte & 15 if priority else byte
+    said = c.theirs.fields["prio"], int(c.notes.get(note, "0"), 16)
+    return c.ours.fields["prio"] == f"{byte:02X}" and said == there
+
+
+@differs("H-PRIORITY", "H", "the whole byte is the priority", "the high four bits, the low four are spare",
+         "they: bits 8 to 5 of the byte are the priority (quoted). That the byte is kept whole is the Rust's, and K1 asks for it")
+def h_priority(c):
+    if c.payload[0] & 2 and last_byte(c, True, "low"):
+        return {"prio", "note low"}
+
+
+@differs("H-PRIORITY-UNSET", "H", "the whole byte is the priority, MP or not", "without MP there is no priority, and the byte is spare",
+         "they: the priority is there if MP is 1 (quoted). That it is kept without MP is the Rust's, and K1 asks for it")
+def h_priority_unset(c):
+    if not c.payload[0] & 2 and last_byte(c, False, "byte"):
+        return {"prio", "note byte"}
+
+
+@differs("H-SPARE", "H", "bits 3 and 4 are read over, written as 0", "read over and shown; scapy writes them back",
+         "all read alike; here in writing: a spare bit is 0 when sent, and the receiver passes over it (from memory)")
+def h_spare(c):
+    first, mask = c.payload[0], 0x1C if c.peer == "scapy" else 0x18
+    cleared = bytes([first & 0xE7]) + c.payload[1:header_size(c.payload)]
+    if first & 0x18 and c.notes.get("spare") == f"{first & mask:02X}" and c.ours.written in ("-", cleared.hex().upper()):
+        return {"note spare"} | c.kept()
+
+
+@differs("H-FO-OLD", "H", "bit 2 is FO", "scapy: a spare bit, written back",
+         "here and tshark: the bit says that another message follows (quoted). scapy follows V15.6.0, in which it was spare")
+def h_fo_old(c):
+    if c.peer == "scapy" and c.payload[0] & 4 and c.notes.get("spare") == f"{c.payload[0] & 0x1C:02X}":
+        return {"fo", "note spare"}
+
+
+@differs("H-FO-MORE", "H", "FO is kept, and no byte behind the header is looked at", "tshark: reads the next message, behind the length of this one",
+         "tshark, for a datagram: another message follows (quoted). Whoever walks the datagram does that; a header reader isn't asked")
+def h_fo_more(c):
+    w = walked(c)
+    if w and c.payload[0] & 4 and not w.fault:
+        return {"note messages"}
+
+
+@differs("H-FO-NOTHING", "H", "FO is kept, and nothing is asked for behind the message",
+         "tshark: the header, then malformed (its source means to note that no data is left)",
+         "tshark: another message is to follow (quoted)")
+def h_fo_nothing(c):
+    w = walked(c)
+    if w and w.fault == "nothing" and w.first:
+        return {"note malformed"}
+
+
+@differs("H-LEFT", "H", "no byte behind the header is looked at",
+         "tshark: the note that data is left though FO isn't set; it reads on as if it were",
+         "tshark's note: it is FO that says that another message follows (quoted)")
+def h_left(c):
+    w = walked(c)
+    if w and w.left and not c.payload[0] & 4:
+        return {"note left", "note messages"}
+
+
+@differs("H-NEXT", "H", "one header is read, and no byte behind it is looked at",
+         "tshark: malformed, or data left, in what it reads behind the first message",
+         "tshark, for a datagram; the first header is the same")
+def h_next(c):
+    w = walked(c)
+    if w and not w.first:
+        later = w.left if c.payload[0] & 4 else w.left[1:]
+        return ({"note malformed", "note messages"} if w.fault else set()) | ({"note left"} if later else set())
+
+
+@differs("H-BODY", "H", "the body isn't looked at", "tshark: the header, then malformed, where the bytes that the length counts aren't whole IEs",
+         "tshark, for a message; the header is the same")
+def h_body(c):
+    w = walked(c)
+    if w and w.fault == "body" and w.first:
+        return {"note malformed"}
+
+
+@differs("H-LENGTH-LONG", "H", "the length is kept, and compared with nothing", "tshark: the header, then malformed, as the message ends past the datagram",
+         "tshark: the length counts what is behind the first 4 bytes (quoted). That it isn't compared is the Rust's, and K1 asks for it")
+def h_length_long(c):
+    w = walked(c)
+    if w and w.fault == "long" and w.first:
+        return {"note malformed"}
+
+
+def stopped_inside(c, fault):
+    """tshark stops inside a header that is whole here, at the place where the message ends by its length, or before."""
+    if c.peer == "tshark" and c.ours.number == 0 and c.theirs.verdict == "malformed":
+        w, size = Walk(c.payload), int.from_bytes(c.payload[2:4], "big") + 4
+        return w.fault == fault and w.first and c.theirs.used <= size % 65536
+
+
+@differs("H-LENGTH-SHORT", "H", "the length is kept, and compared with nothing",
+         "tshark: malformed, as the message ends inside its header; the fields before that are shown",
+         "tshark, as above: a header without SEID has a length of 4 or more, one with SEID of 12 or more")
+def h_length_short(c):
+    if stopped_inside(c, "short"):
+        return {"verdict"}
+
+
+@differs("H-LENGTH-WRAP", "H", "the length is kept, and compared with nothing",
+         "tshark: malformed, as it adds 4 to the length in 16 bits and cuts the message to 0 to 3 bytes (a length of FFFC or above)",
+         "tshark's verdict, though for another reason: no datagram holds such a message")
+def h_length_wrap(c):
+    if stopped_inside(c, "wrap"):
+        return {"verdict"}
+
+
+@differs("H-DEFAULT", "H", "refusal 1", "scapy 2.5.0: where the bytes end between two fields, those missing have their default value; later versions fail",
+         "here: only the SEID may be missing, by S (quoted)")
+def h_default(c):
+    n = header_size(c.payload)
+    if c.peer == "scapy" and c.ours.number == 1 and c.theirs.used == len(c.payload) and len(c.payload) in (1, 2, 4, n - 4, n - 1):
+        return {"verdict"}
+
+
 # ---------------------------------------------------------------- where all are of one mind
 
-# A payload, the peers that read it as we do, and what is worth knowing about it.
+# A payload or header, the peers that read it as we do, and what is worth knowing about it.
 AGREED = [
     ("U 00", "tshark scapy", "no flag at all is accepted", ""),
     ("U 28C0", "tshark", "IPv6D with CHV6 and no V6 is accepted, with its byte", "ties IPv6D to V6 (from memory)"),
@@ -506,4 +694,11 @@ AGREED = [
     ("O 0000", "tshark scapy", "no bit at all is accepted", ""),
     ("O FF000000000700000001000000000000000000000000000000020868400001800001", "tshark scapy", "all kinds of header at once are accepted, six fields in one order", "the same order (quoted)"),
     ("P 1000000161", "tshark scapy", "a domain name protocol without a domain name is accepted, by the strict verdict too", "forbids it (quoted: the domain name fields shall also be present)"),
+    ("H 2001000400000100", "tshark scapy", "without S a header has 8 bytes, with it 16, the SEID in octets 5 to 12", "the same (quoted)"),
+    ("H 21010004000001FF", "tshark scapy", "refused: S is set, and fewer than 16 bytes are there", "the same"),
+    ("H 20010004FFFFFF00", "tshark scapy", "the sequence number has 24 bits, behind it stands one byte", "the same (quoted)"),
+    ("H E005000400000100", "tshark scapy", "version 7 is read as version 1 is, without a note, and so is every other", "has version 1 alone, and an answer of its own to others (from memory)"),
+    ("H 20FF000400000100", "tshark scapy", "type 255 is kept, as every number is; tshark calls it unknown", "leaves it for later versions (from memory)"),
+    ("H 2101000C000000000000000100000100", "tshark scapy", "S decides whether an SEID is there, whatever the type: here in a Heartbeat Request", "has S, MP and FO 0 in messages between nodes (quoted)"),
+    ("H 2005000500000100", "scapy", "a length that doesn't fit is kept, and compared with nothing", "counts what is behind the first 4 bytes (quoted)"),
 ]
