@@ -23,7 +23,7 @@ sent s = bit 0 (getD s 0 0)
 
 -- payloads that are alike have the same flags, version and fields
 module _ (s t : List ℕ) (a : Alike keptBits (end layout s) s t) where
-  same-bit : (j : ℕ) → bit j 0xE7 ≡ true → bit j (getD t 0 0) ≡ bit j (getD s 0 0)
+  same-bit : (j : ℕ) → bit j (getD keptBits 0 0) ≡ true → bit j (getD t 0 0) ≡ bit j (getD s 0 0)
   same-bit j h = alike-bit j h a (omega arith)
 
   same-byte : (i : ℕ) → 1 ≤ i → i + 1 ≤ end layout s → getD t i 0 ≡ getD s i 0
