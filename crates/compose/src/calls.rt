@@ -21,7 +21,6 @@ use crate::keys::TEID;
 use crate::keys::V4;
 use crate::keys::V6;
 use crate::seen::Seen;
-use crate::words;
 
 // The number of a line's call.
 pub(crate) fn call_of(line: &[u8]) -> usize {

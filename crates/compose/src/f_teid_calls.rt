@@ -1,13 +1,12 @@
 // F-TEID: what a builder's line gives, whose words are its calls.
 use crate::fixed;
 use crate::keys;
+use crate::numbers::Given;
 use crate::seen;
-use crate::words;
-use crate::words::Given;
-use crate::words::part;
 use f_teid::Fteid;
 use f_teid::FteidBuilder;
 use f_teid::FteidBuilt;
+use words::part;
 
 fn called(b: FteidBuilder, key: usize, given: Given) -> FteidBuilder {
     let ipv4 = fixed::to_ipv4(given.place);

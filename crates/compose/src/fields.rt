@@ -1,6 +1,5 @@
 // The rows of Node IDs and PFD Contents: their fields, and the rows of payloads that are read.
 use crate::written;
-use answer::Answer;
 use details::refusals;
 use details::texted;
 use node_id::NodeId;
@@ -31,20 +30,6 @@ pub(crate) fn put_pfd_contents(
     rows::put(out, at, &texted::PFD_CONTENTS, &values, texts)
 }
 
-// Puts the row of a payload that is refused.
-fn put_unread(out: &mut [u8], at: usize, answer: Answer) -> usize {
-    let words = refusals::UNREAD;
-    let row = rows::row(&words, answer.number() as usize);
-    rows::put(out, at, row, &refusals::unread(answer), b"")
-}
-
-// Puts the row of a record that can't be made or written: the refusal's number and its first value.
-pub(crate) fn put_unmade(out: &mut [u8], at: usize, answer: Answer) -> usize {
-    let values = answer.values();
-    let row = [rows::count(answer.number() as usize), rows::count(values.0)];
-    rows::put(out, at, b"# # -\n", &row, b"")
-}
-
 // Puts the row of what is accepted where only its length is asked for.
 fn put_brief(out: &mut [u8], at: usize, count: usize) -> usize {
     rows::put(out, at, b"0 # -\n", &[rows::count(count)], b"")
@@ -60,7 +45,7 @@ pub(crate) fn put_node_id_payload(
     let read = NodeId::unmarshal(payload);
     let answer = read.answer;
     if answer.number() != 0 {
-        return put_unread(out, at, answer);
+        return refusals::put_unread(out, at, answer);
     }
     if is_brief {
         return put_brief(out, at, read.used);
@@ -82,7 +67,7 @@ pub(crate) fn put_pfd_contents_payload(
     let read = PfdContents::unmarshal(payload);
     let answer = read.answer;
     if answer.number() != 0 {
-        return put_unread(out, at, answer);
+        return refusals::put_unread(out, at, answer);
     }
     if is_brief {
         return put_brief(out, at, read.used);

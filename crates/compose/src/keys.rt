@@ -1,5 +1,4 @@
 // The keys of record lines. A key's number is its place in the list of all.
-use crate::words;
 
 // Texts come first, then lists, then entries that are added to a list; FIELDS keys are of these.
 pub(crate) const NAME: usize = 5;

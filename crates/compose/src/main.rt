@@ -8,11 +8,11 @@ mod fixed_rows;
 mod keys;
 mod line;
 mod node_id_line;
+mod numbers;
 mod pfd_calls;
 mod pfd_line;
 mod seen;
 mod store;
-mod words;
 mod written;
 
 use lines::left;

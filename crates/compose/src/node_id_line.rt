@@ -9,6 +9,7 @@ use crate::seen::V6_LOW;
 use crate::seen::Values;
 use crate::written;
 use answer::Answer;
+use details::refusals;
 use node_id::NodeId;
 
 fn record_of(seen: Seen, values: &Values) -> NodeId {
@@ -40,7 +41,7 @@ pub(crate) fn put(
 ) -> usize {
     let len = slice_len(call, values);
     if texts.len() < len {
-        return fields::put_unmade(out, at, Answer::InputTooLong { length: len });
+        return refusals::put_unmade(out, at, Answer::InputTooLong { length: len });
     }
     let is_brief = seen.has(keys::BRIEF);
     if call == calls::N_READ {

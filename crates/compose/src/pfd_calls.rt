@@ -3,11 +3,9 @@
 use crate::calls;
 use crate::fixed;
 use crate::keys;
+use crate::numbers::Given;
 use crate::seen;
 use crate::seen::Values;
-use crate::words;
-use crate::words::Given;
-use crate::words::part;
 use answer::Answer;
 use lines::after;
 use pfd_contents::PfdContents;
@@ -16,6 +14,7 @@ use pfd_contents::PfdContentsBuilder;
 use pfd_contents::PfdContentsBuilt;
 use text_fields::MaybeText;
 use text_fields::TextList;
+use words::part;
 
 // A builder after some calls, the answer of the last, and the record whose fields are as the keys have them.
 struct Calls {

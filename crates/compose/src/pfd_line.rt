@@ -7,6 +7,7 @@ use crate::seen::Seen;
 use crate::seen::Values;
 use crate::written;
 use answer::Answer;
+use details::refusals;
 use pfd_contents::PfdContentsBuilt;
 
 fn put_built(
@@ -20,7 +21,7 @@ fn put_built(
 ) -> usize {
     let answer = built.answer;
     if answer.number() != 0 {
-        return fields::put_unmade(out, at, answer);
+        return refusals::put_unmade(out, at, answer);
     }
     written::put_pfd_contents(out, at, built.record, texts, room, is_raw, is_brief)
 }
@@ -39,7 +40,7 @@ pub(crate) fn put(
     let sum = pfd_calls::to_starts(&mut starts);
     let len = pfd_calls::slice_len(call, sum, values[keys::SLICE]);
     if texts.len() < len {
-        return fields::put_unmade(out, at, Answer::InputTooLong { length: len });
+        return refusals::put_unmade(out, at, Answer::InputTooLong { length: len });
     }
     let is_brief = seen.has(keys::BRIEF);
     if call == calls::P_READ {

@@ -1,13 +1,13 @@
 // What the words of a line give.
 use crate::keys;
+use crate::numbers;
+use crate::numbers::Given;
 use crate::store;
-use crate::words;
-use crate::words::Given;
-use crate::words::part;
 use lines::after;
 use lines::left;
 use octets::both;
 use octets::either;
+use words::part;
 
 // A number for each key: how many bytes the texts of a field take, or what the key gives. Behind these stand the last eight bytes
 // of an IPv6 address, and the place of a name.
@@ -80,20 +80,20 @@ fn stored(key: usize, value: &[u8], texts: &mut [u8], at: usize) -> Given {
 // Texts by their places in a slice.
 fn placed(key: usize, value: &[u8]) -> Given {
     if key < keys::LISTS {
-        return words::span(value);
+        return numbers::span(value);
     }
     if key < keys::ENTRIES {
-        return words::counted_span(value);
+        return numbers::counted_span(value);
     }
-    words::decimal(value, usize::MAX)
+    numbers::decimal(value, u64::MAX)
 }
 
 // The number of a key that has no text.
 pub(crate) fn number(key: usize, value: &[u8]) -> Given {
     match key {
-        keys::ROOM => words::decimal(value, 65535),
-        keys::DUAL => words::two_addresses(value),
-        _ => words::hexadecimal(value, keys::width_of(key)),
+        keys::ROOM => numbers::decimal(value, 65535),
+        keys::DUAL => numbers::two_addresses(value),
+        _ => numbers::hexadecimal(value, keys::width_of(key)),
     }
 }
 

@@ -1,12 +1,11 @@
 // Texts of a line, stored in a buffer. A text is `-` for the empty one, hex, or hex and how often it comes. What doesn't fit is
 // counted and not stored.
-use crate::words;
-use crate::words::Given;
-use crate::words::part;
+use crate::numbers::Given;
 use lines::after;
 use lines::least;
 use lines::left;
 use octets::both;
+use words::part;
 
 // The most bytes that a text has.
 const MOST: usize = 300000;
@@ -16,7 +15,7 @@ fn times(value: &[u8], star: usize) -> usize {
     if star == value.len() {
         return 1;
     }
-    words::number(part(value, after(star, 1), value.len())).value
+    words::decimal(part(value, after(star, 1), value.len())).value as usize
 }
 
 // How long a text is whose digits made n bytes, so many times these; 0 where that is no text.

@@ -1,3 +1,4 @@
+pub mod Ascii
 pub mod Fixed
 pub mod Refusals
 pub mod Texted

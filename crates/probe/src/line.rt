@@ -1,5 +1,4 @@
 // The row of a payload line: a letter, a space, and the payload in hex, a dash for the empty one.
-use answer::Answer;
 use details::fixed;
 use details::refusals;
 use details::texted;
@@ -24,22 +23,11 @@ pub(crate) fn put(out: &mut [u8], at: usize, line: &[u8], payload: &mut [u8]) ->
         return rows::put_other(out, at);
     }
     let text = &line[2..];
-    let len = hex::parse(text, payload);
-    if is_payload(text, len) {
-        return put_row(out, at, line[0], texts::part(payload, 0, len));
+    let filled = words::payload(text, payload);
+    if !filled.is_good {
+        return rows::put_other(out, at);
     }
-    rows::put_other(out, at)
-}
-
-// Whether a text that begins with so many digit pairs has nothing else, or is the dash.
-fn is_payload(text: &[u8], pairs: usize) -> bool {
-    if check::same(text, b"-") {
-        return true;
-    }
-    if text.len() % 2 != 0 {
-        return false;
-    }
-    text.len() / 2 == pairs
+    put_row(out, at, line[0], texts::part(payload, 0, filled.len))
 }
 
 // The row of a payload, by its letter.
@@ -56,17 +44,11 @@ fn put_row(out: &mut [u8], at: usize, letter: u8, payload: &[u8]) -> usize {
     }
 }
 
-fn put_unread(out: &mut [u8], at: usize, answer: Answer) -> usize {
-    let words = refusals::UNREAD;
-    let row = rows::row(&words, answer.number() as usize);
-    rows::put(out, at, row, &refusals::unread(answer), b"")
-}
-
 fn put_ue_ip_address(out: &mut [u8], at: usize, payload: &[u8]) -> usize {
     let read = UeIpAddress::unmarshal(payload);
     let answer = read.answer;
     if answer.number() != 0 {
-        return put_unread(out, at, answer);
+        return refusals::put_unread(out, at, answer);
     }
     let mut wire = [0u8; 64];
     let written = read.record.marshal(&mut wire);
@@ -78,7 +60,7 @@ fn put_f_teid(out: &mut [u8], at: usize, payload: &[u8]) -> usize {
     let read = Fteid::unmarshal(payload);
     let answer = read.answer;
     if answer.number() != 0 {
-        return put_unread(out, at, answer);
+        return refusals::put_unread(out, at, answer);
     }
     let mut wire = [0u8; 64];
     let written = read.record.marshal(&mut wire);
@@ -90,7 +72,7 @@ fn put_fseid(out: &mut [u8], at: usize, payload: &[u8]) -> usize {
     let read = Fseid::unmarshal(payload);
     let answer = read.answer;
     if answer.number() != 0 {
-        return put_unread(out, at, answer);
+        return refusals::put_unread(out, at, answer);
     }
     let mut wire = [0u8; 64];
     let written = read.record.marshal(&mut wire);
@@ -102,7 +84,7 @@ fn put_outer_header_creation(out: &mut [u8], at: usize, payload: &[u8]) -> usize
     let read = OuterHeaderCreation::unmarshal(payload);
     let answer = read.answer;
     if answer.number() != 0 {
-        return put_unread(out, at, answer);
+        return refusals::put_unread(out, at, answer);
     }
     let mut wire = [0u8; 64];
     let written = read.record.marshal(&mut wire);
@@ -120,7 +102,7 @@ fn put_node_id(out: &mut [u8], at: usize, payload: &[u8]) -> usize {
     let read = NodeId::unmarshal(payload);
     let answer = read.answer;
     if answer.number() != 0 {
-        return put_unread(out, at, answer);
+        return refusals::put_unread(out, at, answer);
     }
     let mut wire = [0u8; 65535];
     let record = read.record;
@@ -135,7 +117,7 @@ fn put_pfd_contents(out: &mut [u8], at: usize, payload: &[u8]) -> usize {
     let read = PfdContents::unmarshal(payload);
     let answer = read.answer;
     if answer.number() != 0 {
-        return put_unread(out, at, answer);
+        return refusals::put_unread(out, at, answer);
     }
     let mut wire = [0u8; 65535];
     let record = read.record;
