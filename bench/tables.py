@@ -250,4 +250,5 @@ def main():
             plot.save(folder / f"{name}.svg", f"{KINDS[kind]}: instructions by {unit}", points)
 
 
-main()
+if __name__ == "__main__":
+    main()

@@ -1,29 +1,11 @@
-//! The check that both sides answer alike.
+//! What the check compares of a kind.
 
 use crate::images::{head, Record, HEAD};
+use crate::passes::Check;
 use crate::sides::{output, Kind, OUTPUT_LEN, REPORT};
 use pfcp::error::PfcpError;
-use std::fmt::Debug;
-
-#[derive(Default)]
-pub struct Check {
-    pub answers: usize,
-    pub differ: usize,
-}
 
 impl Check {
-    fn same<T: PartialEq + Debug>(&mut self, kind: &Kind, payload: &[u8], ours: T, rust: T) {
-        self.answers += 1;
-        if ours == rust {
-            return;
-        }
-        self.differ += 1;
-        if self.differ <= 5 {
-            let (name, shown) = (kind.name, &payload[..payload.len().min(64)]);
-            println!("differs: {name} {shown:02x?}\n  ours {ours:02x?}\n  Rust {rust:02x?}");
-        }
-    }
-
     /// Number and image of a read against the Rust's record or error. Of a refusal the number, the lengths and the empty record are
     /// compared; the other values aren't in the Rust's error, and oracle/compare looks at them.
     pub fn read<R: Record>(&mut self, kind: &Kind, payload: &[u8], number: u64, image: &[u8]) {
@@ -35,9 +17,9 @@ impl Check {
         };
         let mut expected = head(answer, values, used as u64);
         expected.extend(R::read(payload).map_or(R::refused(), |record| record.laid()));
-        self.same(kind, payload, number, answer);
-        self.same(kind, payload, &image[..HEAD], &expected[..HEAD]);
-        self.same(kind, payload, &image[HEAD..], &expected[HEAD..]);
+        self.same(kind.name, payload, number, answer);
+        self.same(kind.name, payload, &image[..HEAD], &expected[..HEAD]);
+        self.same(kind.name, payload, &image[HEAD..], &expected[HEAD..]);
     }
 
     /// The record of an image, written again, against what the Rust writes; the output behind that stays as it was.
@@ -48,12 +30,12 @@ impl Check {
         out.fill(0xA5);
         let number = (kind.write)(image, payload, out, &mut report);
         let untouched = out[form.len()..].iter().all(|b| *b == 0xA5);
-        self.same(kind, payload, (number, untouched), (0, true));
-        self.same(kind, payload, &report[..], &head(0, [0; 3], form.len() as u64)[..]);
-        self.same(kind, payload, &out[..form.len()], &form[..]);
+        self.same(kind.name, payload, (number, untouched), (0, true));
+        self.same(kind.name, payload, &report[..], &head(0, [0; 3], form.len() as u64)[..]);
+        self.same(kind.name, payload, &out[..form.len()], &form[..]);
     }
 
     pub fn accepted(&mut self, kind: &Kind, payload: &[u8], accepted: bool, expected: bool) {
-        self.same(kind, payload, accepted, expected);
+        self.same(kind.name, payload, accepted, expected);
     }
 }

@@ -156,6 +156,23 @@ fn outer_header_creation(random: &mut Random) -> Vec<Class> {
     )
 }
 
+/// Every bit of the first byte but S is of any value. The cut ones by the length that they don't reach.
+fn header(random: &mut Random) -> Vec<Class> {
+    const SEID: Layout = (0x01, 15);
+    const PLAIN: Layout = (0x00, 7);
+    let mut classes = layouts(random, 0xFE, &[("seid", &[SEID]), ("plain", &[PLAIN])]);
+    classes.retain(|class| class.accepted);
+    for (least, end, choices) in [(0, 8, &[SEID, PLAIN][..]), (8, 12, &[SEID]), (12, 16, &[SEID])] {
+        classes.push(class(&format!("short_{end}"), false, || {
+            let (flags, length) = choices[random.below(choices.len())];
+            let mut payload = bytes(random, flags, 0xFE, length);
+            payload.truncate(least + random.below(end - least));
+            payload
+        }));
+    }
+    classes
+}
+
 /// A character of so many bytes, in UTF-8.
 fn character(random: &mut Random, length: usize) -> char {
     let (low, high) = [(0x20, 0x7E), (0x80, 0x7FF), (0x800, 0xD7FF), (0x10000, 0x10FFFF)][length - 1];
@@ -258,6 +275,7 @@ pub fn of_kind(kind: &str) -> Vec<Class> {
         "node_id" => node_id(&mut random),
         "outer_header_creation" => outer_header_creation(&mut random),
         "pfd_contents" => pfd_contents(&mut random),
+        "header" => header(&mut random),
         _ => names(&mut random),
     }
 }

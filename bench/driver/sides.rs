@@ -2,10 +2,8 @@
 //! calls the archive, the other one the crate `pfcp`, both from outside, as their users do. A call can't be inlined
 //! there, so it stores its whole record; bench/run looks for the calls.
 
+use crate::passes::{bytes, Side};
 use std::mem::MaybeUninit;
-
-/// Reading: the payload. Writing: the record and, of ours, the texts.
-pub type Side = extern "C" fn(*const u8, usize, *const u8, usize);
 
 /// The output that a write is lent.
 pub const OUTPUT_LEN: usize = 65535;
@@ -16,20 +14,6 @@ pub const REPORT: usize = 40;
 
 pub fn output() -> *mut u8 {
     &raw mut OUTPUT as *mut u8
-}
-
-/// The loop and the call alone.
-#[inline(never)]
-pub extern "C" fn empty(_: *const u8, _: usize, _: *const u8, _: usize) {}
-
-/// How many instructions `empty` has, if it is compiled as it always was: ret.
-pub fn empty_size() -> u32 {
-    let code = unsafe { *(empty as *const u8) };
-    (code == 0xC3) as u32
-}
-
-pub fn bytes<'a>(p: *const u8, n: usize) -> &'a [u8] {
-    unsafe { std::slice::from_raw_parts(p, n) }
 }
 
 /// Reading and writing of one kind.

@@ -36,9 +36,9 @@ module _ (s : List ℕ) where
     unfolding read found
     no-second-half r = stop-field found layout s r f refl 1 0 _ 4 _ (8 + u) (8 + u + u) refl (omega (arith, w)) (ap (λ (x : ℕ). 8 + u + x) w)
 
-    -- where the sequence number begins, from the end of all
+    -- where the sequence number begins
     abbrev at : ℕ
-    at = 8 + u + u - 4
+    at = 4 + u + u
 
     -- with all the fields; the version is a variable, since rewriting it would reach into the flags
     pub whole : (v : ℕ) (fo mp : Bool) (len seid seq : ℕ) → 8 + u + u ≤ length s

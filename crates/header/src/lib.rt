@@ -110,7 +110,7 @@ impl Header {
                 actual: n,
             });
         }
-        let at = end16 - 4;
+        let at = 4 + half + half;
         let length = octets::number(&payload[2..4]);
         let seid = octets::number(&payload[4..at]);
         let sequence = octets::number(&payload[at..at + 3]);
