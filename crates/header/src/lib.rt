@@ -93,6 +93,7 @@ impl Header {
         }
         let flags = payload[0];
         let has_seid = octets::bit(flags, 0);
+        // The SEID is wanted in two halves: 12 bytes first, then 16.
         let half = octets::if_set(has_seid, 4);
         let end12 = Header::MIN_LEN + half;
         let end16 = end12 + half;
