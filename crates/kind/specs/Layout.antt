@@ -1,4 +1,4 @@
--- Fields in a row, and a walk over them: the layouts of document 01 that have fixed fields.
+-- Fields in a row, and a walk over them: the layouts of document 01 that have fixed fields, and that of a message header.
 use Prim.Native.Nat.{ℕ, zero, suc, _+_}
 use mathlib.Core.Bool.{Bool}
 use mathlib.Core.List.{List, [], _∷_}
