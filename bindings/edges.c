@@ -1,7 +1,8 @@
 /*
  * edges
  * Lent memory at its edges, for each kind: images, reports and outputs a byte short, just long enough and longer than needed,
- * payloads and outputs of no bytes, NULL too, at both ends of memory that nobody may touch. Prints what fails, then one line.
+ * payloads and outputs of no bytes, NULL too, at both ends of memory that nobody may touch; also texts that end with the
+ * payload and aren't UTF-8. Prints what fails, then one line.
  */
 #define _DEFAULT_SOURCE
 #include "kinds.h"
@@ -246,6 +247,68 @@ static void test_kind(void)
     heads_are_not_looked_at();
 }
 
+/* ---- texts that aren't UTF-8, at the end of the payload ---- */
+
+struct broken {
+    size_t len;
+    const char *payload;
+    uint64_t place;
+    uint64_t bad;
+};
+
+#define BROKEN(PAYLOAD, PLACE, BAD) {sizeof PAYLOAD - 1, PAYLOAD, PLACE, BAD}
+
+static const struct broken broken_names[] = {
+    BROKEN("\x02" "a\xC3", 2, 0),
+    BROKEN("\x02\xE1\x80", 1, 0),
+    BROKEN("\x02\xF0\x90\x80", 1, 0),
+    BROKEN("\x02" "a\xFF", 2, 1),
+    BROKEN("\x02\xED\xA0", 1, 1),
+    BROKEN("\x02\xF0\x8F", 1, 1),
+    BROKEN("\x02\xE1\x80" "A", 1, 2),
+    BROKEN("\x02\xF0\x90" "A", 1, 2),
+    BROKEN("\x02\xF1\x80\x80" "A", 1, 3),
+};
+
+/* The text of the last row ends by its own length, and another one is behind it. */
+static const struct broken broken_texts[] = {
+    BROKEN("\x01\0\0\x01\xC3", 4, 0),
+    BROKEN("\x01\0\0\x03\xF0\x90\x80", 4, 0),
+    BROKEN("\x01\0\0\x02" "a\xFF", 5, 1),
+    BROKEN("\x01\0\0\x03\xE1\x80" "A", 4, 2),
+    BROKEN("\x01\0\0\x04\xF1\x80\x80" "A", 4, 3),
+    BROKEN("\x03\0\0\x01\xC3\0\x01" "a", 4, 0),
+};
+
+/*
+ * What is behind the payload has no part in it, neither a page that nobody may touch nor the guard bytes: these could go on
+ * with a character that the text was cut in.
+ */
+static void broken_is_told(const struct broken *rows, size_t count)
+{
+    struct yerondatt_head head;
+    size_t i;
+    for (i = 0; i < count; i++) {
+        memcpy(lend(&lent_payload, rows[i].len, edge), rows[i].payload, rows[i].len);
+        must(read_into(kind->size) == YERONDATT_NOT_UTF8, "a text that isn't UTF-8 isn't answered 4");
+        head = yerondatt_head_from_image(lent_image.bytes);
+        must(head.answer == YERONDATT_NOT_UTF8 && head.values[0] == rows[i].place && head.values[1] == rows[i].bad
+                 && head.values[2] == 0 && head.count == 0,
+             "the values of a text that isn't UTF-8 are others");
+        must(kind->strict(lent_payload.bytes, lent_payload.len) == 0, "the strict verdict on such a text is yes");
+        must(memcmp(lent_payload.bytes, rows[i].payload, rows[i].len) == 0 && all_guarded(),
+             "reading such a text changes other memory");
+    }
+}
+
+static void test_texts(void)
+{
+    if (kind->read == yerondatt_node_id_read)
+        broken_is_told(broken_names, sizeof broken_names / sizeof *broken_names);
+    if (kind->read == yerondatt_pfd_contents_read)
+        broken_is_told(broken_texts, sizeof broken_texts / sizeof *broken_texts);
+}
+
 int main(void)
 {
     size_t i;
@@ -253,8 +316,10 @@ int main(void)
         kind = &kinds[i];
         edge = LENT_FRONT;
         test_kind();
+        test_texts();
         edge = LENT_BACK;
         test_kind();
+        test_texts();
     }
     printf("edges: %zu tests, %zu failures\n", tests, failures);
     return failures == 0 ? 0 : 1;

@@ -278,7 +278,7 @@ static void show_refusal(struct yerondatt_head head)
         printf("3 0 - | err=3 type=%02" PRIX64 "\n", v[0]);
         break;
     case YERONDATT_NOT_UTF8:
-        printf("4 0 - | err=4 place=%" PRIu64 "\n", v[0]);
+        printf("4 0 - | err=4 place=%" PRIu64 " bad=%" PRIu64 "\n", v[0], v[1]);
         break;
     case YERONDATT_INPUT_TOO_LONG:
         printf("5 0 - | err=5 len=%" PRIu64 "\n", v[0]);

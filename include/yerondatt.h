@@ -47,7 +47,11 @@ enum yerondatt_answer {
     YERONDATT_FLAGS = 2,
     /* the type byte of a Node ID is above 2 [that byte] */
     YERONDATT_NODE_TYPE = 3,
-    /* a text of the payload isn't UTF-8 [place in the payload of the first byte behind the well-formed beginning] */
+    /*
+     * A text of the payload isn't UTF-8 [place in the payload of the first byte behind the well-formed beginning; 0 where the
+     * text was cut, that is, ends inside a character that more bytes could complete, else 1 to 3, the length of the bad
+     * sequence at that place]. A text of PFD Contents ends where its own length says, whatever bytes are behind it.
+     */
     YERONDATT_NOT_UTF8 = 4,
     /* the payload, or the texts lent to a write, have more than 65,535 bytes [how many they have] */
     YERONDATT_INPUT_TOO_LONG = 5,
@@ -102,8 +106,13 @@ enum yerondatt_flag_rule {
 
 /* ---- Images ----------------------------------------------------------------------------------------------------- */
 
-/* The version of the layout that this header describes. yerondatt_layout_version() tells the archive's. */
-#define YERONDATT_LAYOUT_VERSION 1
+/*
+ * The version of the layout that this header describes. yerondatt_layout_version() tells the archive's, and a caller compares
+ * the two once, before its first call: with another version it would take the numbers of an answer for what they aren't.
+ * From 1 to 2 no place of any number has changed, but answer 4 has a second value. An archive of version 1 has 0 there, by
+ * which every broken text would pass for a cut one.
+ */
+#define YERONDATT_LAYOUT_VERSION 2
 
 uint64_t yerondatt_layout_version(void);
 

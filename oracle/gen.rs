@@ -1,4 +1,4 @@
-//! gen KIND N SEED [--form case|full|build|all] [--from A] [--open] [--list]
+//! gen KIND N SEED [--form case|full|build|all|texts] [--from A] [--open] [--list]
 //!
 //! Prints the first N lines, or N lines from line A on, of an endless sequence of test lines. The sequence is
 //! fixed by KIND, form and SEED, and each line by its number too. Fixed lines come first, then all of what can
@@ -7,7 +7,8 @@
 //!   case    payload lines of at most 4,096 digit pairs
 //!   full    payload lines of at most 65,600 digit pairs; of D pairs of numbers
 //!   build   record lines
-//!   all     of T: every text of at most three bytes
+//!   all     every payload of at most three bytes, so of T every text of at most three
+//!   texts   of N and P: every text of at most three bytes, as a name, and as a flow description before a URL
 //!
 //! --open leaves out the byte that ends the last line. --list makes a short list of small lines, to keep.
 
@@ -1115,6 +1116,14 @@ fn short_payload(mut i: u64) -> Vec<u8> {
     i.to_be_bytes()[8 - n..].to_vec()
 }
 
+/// A payload whose first text is given. Behind a text of PFD Contents more follows, so that its end isn't the payload's.
+fn payload_of_text(letter: u8, text: &[u8]) -> Vec<u8> {
+    match letter {
+        b'N' => [&[2], text].concat(),
+        _ => [&[3, 0, 0, text.len() as u8], text, &[0, 1, b'a']].concat(),
+    }
+}
+
 // ---------------------------------------------------------------- the sequences
 
 enum Source<'a> {
@@ -1122,6 +1131,7 @@ enum Source<'a> {
     Records(Records<'a>),
     Distances,
     Short(u8),
+    Texts(u8),
 }
 
 /// A sequence: fixed lines, then those that are counted up, then random ones.
@@ -1166,6 +1176,10 @@ impl<'a> Sequence<'a> {
         Sequence { seed, fixed: Vec::new(), counted: SHORT_PAYLOADS as usize, source: Source::Short(letter) }
     }
 
+    fn short_texts(letter: u8, seed: u64) -> Self {
+        Sequence { seed, fixed: Vec::new(), counted: SHORT_PAYLOADS as usize, source: Source::Texts(letter) }
+    }
+
     fn line(&self, i: u64) -> Vec<u8> {
         let n = i as usize;
         if n < self.fixed.len() {
@@ -1185,7 +1199,10 @@ impl<'a> Sequence<'a> {
             (Source::Distances, true) => distances::counted_line(n),
             (Source::Distances, false) => distances::random_line(&mut r),
             (Source::Short(letter), true) => line_of(&mut Random(0), *letter, &short_payload(n as u64)),
-            (Source::Short(_), false) => stop("there are no more payloads of at most three bytes"),
+            (Source::Texts(letter), true) => {
+                line_of(&mut Random(0), *letter, &payload_of_text(*letter, &short_payload(n as u64)))
+            }
+            (Source::Short(_) | Source::Texts(_), false) => stop("there are no more payloads of at most three bytes"),
         }
     }
 
@@ -1217,7 +1234,7 @@ fn number(word: Option<String>, what: &str) -> u64 {
 
 fn main() {
     let mut args = std::env::args().skip(1);
-    let usage = "usage: gen KIND N SEED [--form case|full|build|all] [--from A] [--open] [--list]";
+    let usage = "usage: gen KIND N SEED [--form case|full|build|all|texts] [--from A] [--open] [--list]";
     let letter = args.next().unwrap_or_else(|| stop(usage));
     let count = number(args.next(), "N");
     let seed = number(args.next(), "SEED");
@@ -1239,6 +1256,7 @@ fn main() {
         (Some(kind), "full") => Sequence::payloads(kind, PAIRS, seed, list),
         (Some(kind), "build") if !kind.calls.is_empty() => Sequence::records(kind, seed, list),
         (Some(kind), "all") => Sequence::short_payloads(kind.letter, seed),
+        (Some(kind), "texts") if kind.texts.is_some() => Sequence::short_texts(kind.letter, seed),
         _ => stop(&format!("{letter} has no form {form}")),
     };
     let mut out = std::io::BufWriter::with_capacity(1 << 16, std::io::stdout().lock());

@@ -54,7 +54,7 @@ fn of_refusal(p: &[u8], r: &Refusal) -> Vec<String> {
     if holds {
         return Vec::new();
     }
-    vec![format!("{} doesn't fit the payload", r.details(true))]
+    vec![format!("{} doesn't fit the payload", r.details())]
 }
 
 /// The standard library says the same of the bytes from the bad place on. A sequence that was cut,

@@ -19,8 +19,6 @@ use std::io::{BufRead, BufReader, BufWriter, Write};
 pub struct Options {
     /// Details of refusals and records behind a bar.
     full: bool,
-    /// The length of a bad UTF-8 sequence beside its place.
-    bad: bool,
     /// The limit of 65,535 bytes, which the published Rust doesn't have.
     limit: bool,
     /// The most digit pairs of a good line.
@@ -67,14 +65,13 @@ fn desk_line(o: &Options, line: &[u8], out: &mut String) {
 }
 
 pub fn main() {
-    let mut o = Options { full: false, bad: false, limit: false, max_pairs: 4096, letters: None };
+    let mut o = Options { full: false, limit: false, max_pairs: 4096, letters: None };
     let mut mode: Mode = payload::answer;
     let mut checks = false;
     let mut args = std::env::args().skip(1);
     while let Some(a) = args.next() {
         match a.as_str() {
             "--full" => o.full = true,
-            "--bad" => o.bad = true,
             "--limit" => o.limit = true,
             "--header" => mode = header::answer,
             "--ies" => mode = ies::answer,
@@ -116,7 +113,7 @@ pub fn main() {
 
 fn usage() -> ! {
     eprintln!(
-        "usage: oracle [--full] [--bad] [--limit] [--max-pairs N] [--letters LETTERS] \
+        "usage: oracle [--full] [--limit] [--max-pairs N] [--letters LETTERS] \
          [--header | --ies | --build | --probe | --compose | --desk | --check | --zero-types]"
     );
     std::process::exit(2)

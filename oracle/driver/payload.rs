@@ -55,6 +55,6 @@ pub fn accepted(o: &Options, r: &Record, out: &mut String) {
 pub fn refused(o: &Options, r: &Refusal, out: &mut String) {
     write!(out, "{} 0 -", r.number()).unwrap();
     if o.full {
-        write!(out, " | {}", r.details(o.bad)).unwrap();
+        write!(out, " | {}", r.details()).unwrap();
     }
 }

@@ -26,16 +26,14 @@ impl Refusal {
         }
     }
 
-    /// Every value, that of bad UTF-8 only `with_bad`.
-    pub fn details(&self, with_bad: bool) -> String {
+    pub fn details(&self) -> String {
         match self {
             Refusal::Length { field, expected, actual } => {
                 format!("err=1 field={field} exp={expected} act={actual}")
             }
             Refusal::Flags { byte, rule } => format!("err=2 flags={byte:02X} rule={rule}"),
             Refusal::NodeType { byte } => format!("err=3 type={byte:02X}"),
-            Refusal::Utf8 { place, bad } if with_bad => format!("err=4 place={place} bad={bad}"),
-            Refusal::Utf8 { place, .. } => format!("err=4 place={place}"),
+            Refusal::Utf8 { place, bad } => format!("err=4 place={place} bad={bad}"),
             Refusal::InputTooLong { len } => format!("err=5 len={len}"),
         }
     }

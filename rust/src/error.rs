@@ -113,10 +113,14 @@ pub enum Why {
         /// The type.
         byte: u8,
     },
-    /// 4: a text that isn't UTF-8.
+    /// 4: a text that isn't UTF-8. In a PFD Contents it ends where its own length says, whatever bytes are behind it.
     NotUtf8 {
         /// The place in the payload of the first byte behind what is well-formed.
         place: usize,
+        /// 0 where the text ends inside a character that more bytes could complete: it was cut. Else 1 to 3, the length
+        /// of the bad sequence at `place`. [`Utf8Error::error_len`](core::str::Utf8Error::error_len) says the same,
+        /// with `None` for 0.
+        bad: usize,
     },
     /// 5: a payload, or the texts of a record, above 65,535 bytes.
     InputTooLong {
@@ -160,7 +164,7 @@ impl Refusal {
             1 => Why::Short { field: Field(a as u8), expected: b as usize, actual: c as usize },
             2 => Why::Flags { byte: a as u8, rule: b as u8 },
             3 => Why::NodeType { byte: a as u8 },
-            4 => Why::NotUtf8 { place: a as usize },
+            4 => Why::NotUtf8 { place: a as usize, bad: b as usize },
             5 => Why::InputTooLong { length: a as usize },
             6 => Why::BadText { field: Field(a as u8) },
             7 => Why::OutputTooLong,
@@ -192,7 +196,7 @@ impl Refusal {
             Why::Short { field, expected, actual } => [field.0 as u64, expected as u64, actual as u64],
             Why::Flags { byte, rule } => [byte as u64, rule as u64, 0],
             Why::NodeType { byte } => [byte as u64, 0, 0],
-            Why::NotUtf8 { place } => [place as u64, 0, 0],
+            Why::NotUtf8 { place, bad } => [place as u64, bad as u64, 0],
             Why::InputTooLong { length } => [length as u64, 0, 0],
             Why::BadText { field } => [field.0 as u64, 0, 0],
             Why::OutputTooLong => [0; 3],
@@ -221,7 +225,17 @@ impl fmt::Display for Why {
             Why::NodeType { byte } => {
                 write!(f, "type {byte} is neither 0 (IPv4) nor 1 (IPv6) nor 2 (a name)")
             }
-            Why::NotUtf8 { place } => write!(f, "a text isn't UTF-8 from byte {place} of the payload on"),
+            Why::NotUtf8 { place, bad: 0 } => {
+                write!(f, "the text was cut inside a character, which begins at byte {place} of the payload")
+            }
+            Why::NotUtf8 { place, bad } => {
+                match bad {
+                    1 => write!(f, "byte {place}")?,
+                    2 => write!(f, "bytes {place} and {}", place + 1)?,
+                    _ => write!(f, "bytes {place} to {}", place + bad - 1)?,
+                }
+                f.write_str(" of the payload can't stand there in UTF-8")
+            }
             Why::InputTooLong { length } => write!(f, "{length} bytes are too many, the limit is 65535"),
             Why::BadText { field } => write!(f, "the {field} isn't a text that can be written"),
             Why::OutputTooLong => f.write_str("the written form would have more than 65535 bytes"),

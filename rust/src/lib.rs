@@ -34,5 +34,10 @@ mod raw_lines;
 pub use boundary::layout_version;
 pub use error::Refusal;
 
-/// The version of the record layouts that this crate knows. That of the archive is [`layout_version`].
-pub const LAYOUT_VERSION: u64 = 1;
+/// The version of the record layouts that this crate knows. That of the archive is [`layout_version`]. Where the two
+/// aren't the same, the numbers of an answer may be taken for what they aren't.
+///
+/// From 1 to 2 no place of any number has changed, but refusal 4 has a second value, `bad` of
+/// [`Why::NotUtf8`](error::Why::NotUtf8). An archive of version 1 has 0 there, by which every broken text would pass
+/// for a cut one.
+pub const LAYOUT_VERSION: u64 = 2;

@@ -28,10 +28,56 @@ fn of_readers() {
     says(PfdContents::unmarshal(&[1, 0, 0xFF, 0xFF]), 1, [10, 65_539, 4], short);
     let type_9 = "Node ID: type 9 is neither 0 (IPv4) nor 1 (IPv6) nor 2 (a name)";
     says(NodeId::unmarshal(&[9]), 3, [9, 0, 0], type_9);
-    let bad = "Node ID: a text isn't UTF-8 from byte 2 of the payload on";
-    says(NodeId::unmarshal(&[2, 0x61, 0xFF]), 4, [2, 0, 0], bad);
     let long = "F-TEID: 65536 bytes are too many, the limit is 65535";
     says(Fteid::unmarshal(&[0; 65_536]), 5, [65_536, 0, 0], long);
+}
+
+/// A name that was cut, and bad sequences of one, two and three bytes.
+#[test]
+fn of_names() {
+    let cut = "Node ID: the text was cut inside a character, which begins at byte 2 of the payload";
+    says(NodeId::unmarshal(&[2, 0x61, 0xC3]), 4, [2, 0, 0], cut);
+    let cut = "Node ID: the text was cut inside a character, which begins at byte 1 of the payload";
+    says(NodeId::unmarshal(&[2, 0xF0, 0x90, 0x80]), 4, [1, 0, 0], cut);
+    let one = "Node ID: byte 2 of the payload can't stand there in UTF-8";
+    says(NodeId::unmarshal(&[2, 0x61, 0xFF]), 4, [2, 1, 0], one);
+    let two = "Node ID: bytes 1 and 2 of the payload can't stand there in UTF-8";
+    says(NodeId::unmarshal(&[2, 0xF0, 0x90, 0x41]), 4, [1, 2, 0], two);
+    says(NodeId::unmarshal(&[2, 0xE1, 0x80, 0x41]), 4, [1, 2, 0], two);
+    let three = "Node ID: bytes 1 to 3 of the payload can't stand there in UTF-8";
+    says(NodeId::unmarshal(&[2, 0xF1, 0x80, 0x80, 0x41]), 4, [1, 3, 0], three);
+}
+
+/// No byte could complete these, though they end with the text: the second byte never follows the first.
+#[test]
+fn of_names_that_end_with_a_bad_sequence() {
+    let one = "Node ID: byte 1 of the payload can't stand there in UTF-8";
+    says(NodeId::unmarshal(&[2, 0xF0, 0x8F]), 4, [1, 1, 0], one);
+    says(NodeId::unmarshal(&[2, 0xED, 0xA0]), 4, [1, 1, 0], one);
+}
+
+#[test]
+fn of_texts() {
+    let cut = "PFD Contents: the text was cut inside a character, which begins at byte 4 of the payload";
+    says(PfdContents::unmarshal(&[1, 0, 0, 1, 0xC3]), 4, [4, 0, 0], cut);
+    let one = "PFD Contents: byte 5 of the payload can't stand there in UTF-8";
+    says(PfdContents::unmarshal(&[1, 0, 0, 2, 0x61, 0xFF]), 4, [5, 1, 0], one);
+    let two = "PFD Contents: bytes 4 and 5 of the payload can't stand there in UTF-8";
+    says(PfdContents::unmarshal(&[1, 0, 0, 3, 0xE1, 0x80, 0x41]), 4, [4, 2, 0], two);
+    let three = "PFD Contents: bytes 4 to 6 of the payload can't stand there in UTF-8";
+    says(PfdContents::unmarshal(&[1, 0, 0, 4, 0xF1, 0x80, 0x80, 0x41]), 4, [4, 3, 0], three);
+}
+
+/// A text ends where its own length says. The bytes behind it don't make it a broken one, nor complete it.
+#[test]
+fn of_texts_with_bytes_behind() {
+    let cut = "PFD Contents: the text was cut inside a character, which begins at byte 4 of the payload";
+    says(PfdContents::unmarshal(&[3, 0, 0, 1, 0xC3, 0, 1, 0x61]), 4, [4, 0, 0], cut);
+    says(PfdContents::unmarshal(&[1, 0, 0, 1, 0xC3, 0xA9]), 4, [4, 0, 0], cut);
+    let second = "PFD Contents: the text was cut inside a character, which begins at byte 8 of the payload";
+    says(PfdContents::unmarshal(&[3, 0, 0, 1, 0x61, 0, 2, 0x61, 0xC3]), 4, [8, 0, 0], second);
+    let entry = "PFD Contents: byte 7 of the payload can't stand there in UTF-8";
+    says(PfdContents::unmarshal(&[0x40, 0, 0, 1, 0x61, 0, 1, 0xFF]), 4, [7, 1, 0], entry);
 }
 
 #[test]

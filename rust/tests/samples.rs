@@ -103,7 +103,10 @@ fn fseid() {
 fn node_id() {
     assert_eq!(NodeId::unmarshal_used(&[2]), Ok((NodeId::new_fqdn(""), 1)));
     assert_eq!(NodeId::unmarshal(&[3]), refused(Kind::NodeId, Why::NodeType { byte: 3 }));
-    assert_eq!(NodeId::unmarshal(&[2, 0x61, 0xC3]), refused(Kind::NodeId, Why::NotUtf8 { place: 2 }));
+    let cut = Why::NotUtf8 { place: 2, bad: 0 };
+    assert_eq!(NodeId::unmarshal(&[2, 0x61, 0xC3]), refused(Kind::NodeId, cut));
+    let broken = Why::NotUtf8 { place: 2, bad: 1 };
+    assert_eq!(NodeId::unmarshal(&[2, 0x61, 0xFF]), refused(Kind::NodeId, broken));
 }
 
 #[test]
@@ -126,6 +129,8 @@ fn pfd_contents() {
     let short = Why::Short { field: Field::TEXT, expected: 6, actual: 5 };
     assert_eq!(PfdContents::unmarshal(&[0x01, 0, 0, 2, 0x61]), refused(Kind::PfdContents, short));
     assert_eq!(PfdContents::unmarshal(&[0x20, 0, 0, 0]).unwrap().additional_flow_description, [""]);
+    let cut = Why::NotUtf8 { place: 4, bad: 0 };
+    assert_eq!(PfdContents::unmarshal(&[0x01, 0, 0, 1, 0xC3]), refused(Kind::PfdContents, cut));
 }
 
 /// A slip of students: a record with two flow texts and one URL is read back as one and two.

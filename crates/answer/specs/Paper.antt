@@ -1,4 +1,5 @@
--- Each answer's number and values, as document 01's table lists them and the requests behind it (10 is K1's), and what a write answers.
+-- Each answer's number and values, as document 01's table lists them and the requests behind it (10 is K1's, the second value of 4 is K2's), and what a
+-- write answers.
 use Prim.Native.Nat.{ℕ}
 use mathlib.Core.Bool.{Bool, true, false}
 use lib.Dec.{leb}
@@ -13,7 +14,7 @@ numberOf Done = 0
 numberOf (Short field expected actual) = 1
 numberOf (Flags byte rule) = 2
 numberOf (NodeType byte) = 3
-numberOf (NotUtf8 place) = 4
+numberOf (NotUtf8 place bad) = 4
 numberOf (InputTooLong length) = 5
 numberOf (BadText field) = 6
 numberOf OutputTooLong = 7
@@ -27,7 +28,7 @@ valuesOf Done = (0, 0, 0)
 valuesOf (Short field expected actual) = (field, expected, actual)
 valuesOf (Flags byte rule) = (byte, rule, 0)
 valuesOf (NodeType byte) = (byte, 0, 0)
-valuesOf (NotUtf8 place) = (place, 0, 0)
+valuesOf (NotUtf8 place bad) = (place, bad, 0)
 valuesOf (InputTooLong length) = (length, 0, 0)
 valuesOf (BadText field) = (field, 0, 0)
 valuesOf OutputTooLong = (0, 0, 0)

@@ -20,9 +20,11 @@ pub enum Answer {
     NodeType {
         byte: u8,
     },
-    // 4: a text that isn't UTF-8, on reading.
+    // 4: a text that isn't UTF-8, on reading: where its good beginning ends, and how many bytes there are bad, 0 where the text ends
+    // inside a sequence that more bytes could complete.
     NotUtf8 {
         place: usize,
+        bad: usize,
     },
     // 5: a payload or a lent text slice above 65,535 bytes.
     InputTooLong {
@@ -69,7 +71,7 @@ impl Answer {
             } => 1,
             Answer::Flags { byte: _, rule: _ } => 2,
             Answer::NodeType { byte: _ } => 3,
-            Answer::NotUtf8 { place: _ } => 4,
+            Answer::NotUtf8 { place: _, bad: _ } => 4,
             Answer::InputTooLong { length: _ } => 5,
             Answer::BadText { field: _ } => 6,
             Answer::OutputTooLong => 7,
@@ -92,7 +94,7 @@ impl Answer {
             } => Values(field as usize, expected, actual),
             Answer::Flags { byte, rule } => Values(byte as usize, rule as usize, 0),
             Answer::NodeType { byte } => Values(byte as usize, 0, 0),
-            Answer::NotUtf8 { place } => Values(place, 0, 0),
+            Answer::NotUtf8 { place, bad } => Values(place, bad, 0),
             Answer::InputTooLong { length } => Values(length, 0, 0),
             Answer::BadText { field } => Values(field as usize, 0, 0),
             Answer::OutputTooLong => Values(0, 0, 0),

@@ -24,7 +24,7 @@ unreadWords =
     ++ ascii "1 0 - | err=1 field=# exp=# act=#\n"
     ++ ascii "2 0 - | err=2 flags=# rule=#\n"
     ++ ascii "3 0 - | err=3 type=#\n"
-    ++ ascii "4 0 - | err=4 place=#\n"
+    ++ ascii "4 0 - | err=4 place=# bad=#\n"
     ++ ascii "5 0 - | err=5 len=#\n"
 
 -- the row of a payload that is refused

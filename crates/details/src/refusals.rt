@@ -7,8 +7,8 @@ ghost use Rattle.rows.specs.Row.{ends, puts};
 ghost use Rattle.details.specs.Refusals.{firstValue, unreadValues, unreadRow, unmadeRow};
 
 // The rows of a payload that is refused, by the number of the answer: a reader gives the first five.
-const UNREAD: [u8; 128] =
-    *b"0\n1 0 - | err=1 field=# exp=# act=#\n2 0 - | err=2 flags=# rule=#\n3 0 - | err=3 type=#\n4 0 - | err=4 place=#\n5 0 - | err=5 len=#\n";
+const UNREAD: [u8; 134] =
+    *b"0\n1 0 - | err=1 field=# exp=# act=#\n2 0 - | err=2 flags=# rule=#\n3 0 - | err=3 type=#\n4 0 - | err=4 place=# bad=#\n5 0 - | err=5 len=#\n";
 
 // The first value of a refusal: flags and a type are bytes.
 fn first_value(number: u8, x: usize) -> Value

@@ -11,7 +11,7 @@ use borrow.Author.Tests.{eq-eqb, leb-true, eqb-true}
 use Rattle.answer.specs.declared.Answer.{Answer}
 use Rattle.answer.specs.declared.Answer.the-variants.{Done, Short, NodeType, NotUtf8, InputTooLong}
 use Rattle.octets.specs.Octets.{pick, field}
-use Rattle.text.specs.Utf8.{goodLen}
+use Rattle.text.specs.Utf8.{goodLen, checked}
 use Rattle.texts.specs.Texts.{isText}
 use Rattle.node_id.specs.declared.NodeId.{NodeId}
 use Rattle.node_id.specs.declared.NodeIdRead.{NodeIdRead}
@@ -61,8 +61,8 @@ short-not k m n q = let z : _≡_ {A = ℕ} 0 1 = cc in omega arith
 long-not : (n : ℕ) → InputTooLong n ≡ Done → ⊥
 long-not n q = let z : _≡_ {A = ℕ} 0 1 = cc in omega arith
 
-text-not : (n : ℕ) → NotUtf8 n ≡ Done → ⊥
-text-not n q = let z : _≡_ {A = ℕ} 0 1 = cc in omega arith
+text-not : (n b : ℕ) → NotUtf8 n b ≡ Done → ⊥
+text-not n b q = let z : _≡_ {A = ℕ} 0 1 = cc in omega arith
 
 addressed : (s : List ℕ) (number width : ℕ) (make : List ℕ → NodeId) → readAddress number width make s .answer ≡ Done → suc width ≤ length s
 unfolding readAddress
@@ -79,5 +79,5 @@ formed s q =
     by zero e q = address ipv4-type (addressed s 1 4 ofIpv4 q) e
     by (suc zero) e q = address ipv6-type (addressed s 2 16 ofIpv6 q) e
     by (suc (suc zero)) e q =
-        name (eqb-true _ _ (tested (eqb (1 + goodLen (drop 1 s)) (length s)) (accepted (length s) (named 1 (goodLen (drop 1 s)))) (NotUtf8 (1 + goodLen (drop 1 s))) (text-not (1 + goodLen (drop 1 s))) q .0)) e
+        name (eqb-true _ _ (tested (eqb (1 + goodLen (drop 1 s)) (length s)) (accepted (length s) (named 1 (goodLen (drop 1 s)))) (NotUtf8 (1 + goodLen (drop 1 s)) (checked (drop 1 s) .bad)) (text-not _ _) q .0)) e
     by (suc (suc (suc b))) e q = let z : _≡_ {A = ℕ} 0 1 = cc in absurd (omega arith)

@@ -11,7 +11,7 @@ use Rattle.octets.specs.declared.MaybeIpv4.{MaybeIpv4}
 use Rattle.octets.specs.declared.MaybeIpv6.{MaybeIpv6}
 use Rattle.octets.specs.Octets.{field, ipv4Of, ipv6Of}
 use Rattle.octets.proofs.Laws.{length-field, ipv4-octets, ipv6-octets}
-use Rattle.text.specs.Utf8.{goodLen}
+use Rattle.text.specs.Utf8.{goodLen, badLen, checked}
 use Rattle.node_id.specs.declared.NodeId.{NodeId}
 use Rattle.node_id.specs.declared.NodeIdRead.{NodeIdRead}
 use Rattle.node_id.specs.NodeId.{ofIpv4, ofIpv6, named, refused, accepted, readAddress, readIpv4, readIpv6, readFqdn, byType, read}
@@ -36,12 +36,18 @@ module _ (s : List ℕ) (x : NodeId) where
 -- ---- a name, of which g bytes are well formed
 module _ (s : List ℕ) (h : 0 < length s) (g : ℕ) (e : g ≡ goodLen (take (length s - 1) (drop 1 s))) where
   -- the part behind the type is all of it
-  all-behind : g ≡ goodLen (drop 1 s)
-  all-behind = e ∙ ap goodLen (take-all (length s - 1) (drop 1 s) (omega (arith, length-drop 1 s)))
+  behind : take (length s - 1) (drop 1 s) ≡ drop 1 s
+  behind = take-all (length s - 1) (drop 1 s) (omega (arith, length-drop 1 s))
 
-  pub garbled-name : (r : NodeIdRead) → (g ≡ length s - 1 → ⊥) → r ≡ refused (NotUtf8 (1 + g)) → r ≡ readFqdn s
-  unfolding readFqdn
-  garbled-name r n q = rw (← all-behind, ne-eqb (1 + g) (length s) (λ f. n (omega arith))) q
+  all-behind : g ≡ goodLen (drop 1 s)
+  all-behind = e ∙ ap goodLen behind
+
+  pub garbled-name : (r : NodeIdRead) (bad : ℕ) → (g ≡ length s - 1 → ⊥) → bad ≡ badLen (drop g (take (length s - 1) (drop 1 s)))
+      → r ≡ refused (NotUtf8 (1 + g) bad) → r ≡ readFqdn s
+  unfolding readFqdn checked
+  garbled-name r bad n b q =
+      let how : bad ≡ badLen (drop g (drop 1 s)) = b ∙ ap (λ (l : List ℕ). badLen (drop g l)) behind in
+      rw (← all-behind, ne-eqb (1 + g) (length s) (λ f. n (omega arith)), ← how) q
 
   pub whole-name : (x : NodeId) → g ≡ length s - 1 → x ≡ named 1 g → accepted (length s) x ≡ readFqdn s
   unfolding readFqdn

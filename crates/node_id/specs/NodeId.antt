@@ -8,7 +8,7 @@ use lib.ListN.{length, getD, drop, replicate}
 use Rattle.answer.specs.declared.Answer.{Answer}
 use Rattle.answer.specs.declared.Answer.the-variants.{Done, Short, NodeType, NotUtf8, InputTooLong, BadText}
 use Rattle.octets.specs.Octets.{pick, field}
-use Rattle.text.specs.Utf8.{goodLen}
+use Rattle.text.specs.Utf8.{goodLen, checked}
 use Rattle.texts.specs.Texts.{isText, bytesOfText}
 use Rattle.kind.specs.Kind.{Reader}
 use Rattle.kind.specs.Write.{_then_, tooLongInput, tooLongOutput}
@@ -65,11 +65,11 @@ readIpv4 s = readAddress 1 4 ofIpv4 s
 abbrev pub readIpv6 : List ℕ → NodeIdRead
 readIpv6 s = readAddress 2 16 ofIpv6 s
 
--- type 2: all that follows is UTF-8 text, perhaps empty
+-- type 2: all that follows is UTF-8 text, perhaps empty; refusal 4 says where its good beginning ends, and how many bytes there are bad
 unfoldable pub readFqdn : List ℕ → NodeIdRead
 readFqdn s =
     let text = drop 1 s in
-    pick (eqb (1 + goodLen text) (length s)) (accepted (length s) (named 1 (goodLen text))) (refused (NotUtf8 (1 + goodLen text)))
+    pick (eqb (1 + goodLen text) (length s)) (accepted (length s) (named 1 (goodLen text))) (refused (NotUtf8 (1 + goodLen text) (checked text .bad)))
 
 unfoldable pub byType : ℕ → List ℕ → NodeIdRead
 byType zero s = readIpv4 s

@@ -92,9 +92,12 @@ fn read_fqdn(payload: &[u8]) -> NodeIdRead
     ensures { λ r. ⌜ r ≡ readFqdn (now (payload .entry)) ⌝ }
 {
     let n = payload.len();
-    let good = text::well_formed(&payload[1..]);
+    let name = &payload[1..];
+    let good = text::well_formed(name);
     if good != n - 1 {
-        return refused(Answer::NotUtf8 { place: 1 + good });
+        let place = 1 + good;
+        let bad = text::bad_length(name, good);
+        return refused(Answer::NotUtf8 { place, bad });
     }
     let record = NodeId::new_fqdn(1, good);
     NodeIdRead {

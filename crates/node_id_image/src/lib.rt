@@ -146,9 +146,12 @@ fn read_name(payload: &[u8], image: &mut [u8]) -> u64
     ensures { λ r. ⌜ now (image .exit) ≡ put (now (image .entry)) 0 (imageOf (readFqdn (now (payload .entry)))) ⌝ }
 {
     let n = payload.len();
-    let good = text::well_formed(&payload[1..]);
+    let name = &payload[1..];
+    let good = text::well_formed(name);
     if good != n - 1 {
-        return put_refused(image, Answer::NotUtf8 { place: 1 + good });
+        let place = 1 + good;
+        let bad = text::bad_length(name, good);
+        return put_refused(image, Answer::NotUtf8 { place, bad });
     }
     let record = NodeId::new_fqdn(1, good);
     put_image(image, n, record);

@@ -28,6 +28,15 @@ examples =
     ∷ record { text = 0xE1 ∷ 0x80 ∷ 0xE2 ∷ 0xF0 ∷ 0x91 ∷ 0x92 ∷ 0xF1 ∷ 0xBF ∷ 0x41 ∷ []; good = 0; bad = 2 }
     ∷ record { text = 0x41 ∷ 0xF0 ∷ 0x91 ∷ 0x92 ∷ 0x41 ∷ []; good = 1; bad = 3 }
     ∷ record { text = 0x61 ∷ 0xC3 ∷ []; good = 1; bad = 0 }
+    -- three bytes of four, and then nothing or a byte that does not belong there
+    ∷ record { text = 0xF0 ∷ 0x90 ∷ 0x80 ∷ []; good = 0; bad = 0 }
+    ∷ record { text = 0xF1 ∷ 0x80 ∷ 0x80 ∷ 0x41 ∷ []; good = 0; bad = 3 }
+    -- two bytes of four and of three, and then such a byte
+    ∷ record { text = 0xF0 ∷ 0x90 ∷ 0x41 ∷ []; good = 0; bad = 2 }
+    ∷ record { text = 0xE1 ∷ 0x80 ∷ 0x41 ∷ []; good = 0; bad = 2 }
+    -- a second byte that its first does not allow: no byte after them could help, so they are bad at the text's end too
+    ∷ record { text = 0xF0 ∷ 0x8F ∷ []; good = 0; bad = 1 }
+    ∷ record { text = 0xED ∷ 0xA0 ∷ []; good = 0; bad = 1 }
     ∷ []
 
 pub computed : map (λ (e : Example). checked (e .text)) examples ≡ map (λ (e : Example). record { good = e .good; bad = e .bad }) examples

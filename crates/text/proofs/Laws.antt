@@ -3,6 +3,7 @@ use mathlib.Core.Path.{_≡_, refl, sym, ap, _∙_}
 use mathlib.Core.Bool.{Bool, true, false, cond, not}
 use mathlib.Core.List.{List, [], _∷_}
 use Prim.Native.Nat.{ℕ, zero, suc, _+_, _-_, _≤_, _<_, max, zero-le}
+use native.Mathlib.Nat.{zero-add}
 use native.Mathlib.Omega.{arith}
 use borrow.Author.Tests.{eqb-true, not-true, not-false, ltb-true, ltb-false}
 use lib.Bits.{bitOr, or-add-and, and-le-l, and-le-r}
@@ -11,9 +12,9 @@ use lib.ListN.{length, getD, drop, length-drop, drop-of-length-le}
 use lib.Seq.{drop-drop}
 use Rattle.text.specs.declared.Checked.{Checked}
 use Rattle.text.specs.Utf8.{Range, rows, agree, seqLen, walk, goodLen, best, badLen, checked}
-use Rattle.text.specs.Steps.{Starts, Ascii, Passed, Stopped}
+use Rattle.text.specs.Steps.{Ascii, Passed}
 use Rattle.text.proofs.Agree.{agree-fits}
-use Rattle.text.proofs.Table.{starts-ascii, whole-row}
+use Rattle.text.proofs.Table.{sequence-ascii, whole-row}
 
 -- ---- goodLen
 
@@ -82,29 +83,38 @@ passed-length s at n p is =
     let step : goodLen (drop at s) ≡ n + goodLen (drop n (drop at s)) = rw is at (good-step (drop at s)) in
     record { forward = omega arith; inside = p; same = omega (arith, step, ap goodLen (drop-drop n at s)) }
 
-module _ (s : List ℕ) (at n : ℕ) (t : Bool) (found : Starts s at n t) where
-  pub passed-whole : not t ≡ false → Passed s at (at + n)
-  passed-whole e = passed-length s at n (found .inside) (found .only-whole ∙ rw (not-false t e))
+module _ (s : List ℕ) (at n : ℕ) (e : n ≡ seqLen rows (drop at s)) where
+  pub inside : n ≤ length s - at
+  inside = omega (arith, e, seq-fits rows (drop at s), length-drop at s)
 
-  pub stopped-at : not t ≡ true → Stopped s at n
-  stopped-at e = record { nothing = good-none (drop at s) (found .only-whole ∙ rw (not-true t e)); most = found .most }
+  pub passed-whole : at < length s → Passed s at (at + n)
+  passed-whole p = passed-length s at n (omega (arith, inside)) (sym e)
+
+  pub good-ends : n ≡ 0 → goodLen (drop at s) ≡ 0
+  good-ends z = good-none (drop at s) (sym e ∙ z)
 
 -- What agrees with all of a row is a sequence.
 pub passed-row : (s : List ℕ) (at k n : ℕ) → at + 4 ≤ length s → k < 9 → length (getD rows k []) ≡ n → n ≤ agree (getD rows k []) (drop at s) → Passed s at (at + n)
 passed-row s at k n room p e h =
     passed-length s at n (omega (arith, agree-fits (getD rows k []) (drop at s), length-drop at s)) (whole-row s at k room p n e h)
 
-nothing-begun : (s : List ℕ) (at : ℕ) → length s ≤ at → 0 ≡ best rows (drop at s)
-unfolding best agree rows
-nothing-begun s at p = let e : drop at s ≡ [] = drop-of-length-le s p in rw e
+pub good-end : (s : List ℕ) (at : ℕ) → length s ≤ at → goodLen (drop at s) ≡ 0
+good-end s at p = omega (arith, good-fits (drop at s), length-drop at s)
 
-pub stopped-end : (s : List ℕ) (at : ℕ) → length s ≤ at → Stopped s at 0
-stopped-end s at p = record { nothing = omega (arith, good-fits (drop at s), length-drop at s); most = nothing-begun s at p }
+-- What is passed up to where nothing more is good ends there.
+pub ended : (s : List ℕ) (from at : ℕ) → Passed s from at → goodLen (drop at s) ≡ 0 → at ≡ from + goodLen (drop from s)
+ended s from at p z = omega (arith, p .same, z)
+
+pub ended-all : (s : List ℕ) (r : ℕ) → r ≡ 0 + goodLen (drop 0 s) → (r ≡ goodLen s) × (r ≤ length s)
+ended-all s r e = let all : r ≡ goodLen s = e ∙ zero-add (goodLen s) in (all, omega (arith, all, good-fits s))
+
+pub ended-on : (s : List ℕ) (from at r : ℕ) → Passed s from at → r ≡ at + goodLen (drop at s) → r ≡ from + goodLen (drop from s)
+ended-on s from at r p e = omega (arith, p .same, e)
 
 -- ---- ASCII
 
 pub passed-ascii : (s : List ℕ) (at : ℕ) → at < length s → getD s at 0 < 0x80 → Passed s at (at + 1)
-passed-ascii s at p q = passed-whole s at 1 true (starts-ascii s at p q) refl
+passed-ascii s at p q = passed-whole s at 1 (sequence-ascii s at p q) p
 
 -- A bitwise or is ASCII only where both bytes are.
 pub or-ascii : (a b : ℕ) → bitOr a b < 0x80 → (a < 0x80) × (b < 0x80)
@@ -129,11 +139,17 @@ passed-run s from until at h p q = go (until - at) at p (omega arith)
     go (suc n) at p e =
         passed-on (passed-ascii s at (omega (arith, h .inside, e)) (h .each at p (omega (arith, e)))) (go n (at + 1) (omega arith) (omega (arith, e)))
 
--- ---- checked
+-- ---- how a text is broken
 
-pub checked-of : (s : List ℕ) (at begun bad : ℕ) → Passed s 0 at → Stopped s at begun → bad ≡ cond (eqb begun (length s - at)) 0 (max 1 begun)
-    → _≡_ {A = Checked} (record { good = at; bad = bad }) (checked s)
-unfolding checked badLen
-checked-of s at begun bad p q b =
-    let good : goodLen s ≡ at = omega (arith, p .same, q .nothing) in
-    rw (good, length-drop, ← q .most, b)
+module _ (s : List ℕ) (at bad : ℕ) where
+  pub nothing-bad : length s ≤ at → bad ≡ cond (eqb 0 0) 0 (max 1 0) → bad ≡ badLen (drop at s)
+  unfolding badLen best agree rows
+  nothing-bad p b = let none : drop at s ≡ [] = drop-of-length-le s p in rw none b
+
+  pub bad-behind : (n : ℕ) → n ≡ best rows (drop at s) → bad ≡ cond (eqb n (length s - at)) 0 (max 1 n) → bad ≡ badLen (drop at s)
+  unfolding badLen
+  bad-behind n e b = rw (← e, length-drop) b
+
+pub checked-of : (s : List ℕ) (good bad : ℕ) → good ≡ goodLen s → bad ≡ badLen (drop good s) → _≡_ {A = Checked} (record { good = good; bad = bad }) (checked s)
+unfolding checked
+checked-of s good bad g b = rw (← g, b)

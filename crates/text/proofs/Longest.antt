@@ -70,13 +70,14 @@ fitting (row ∷ l) s p = go (eqb (agree row s) (length row)) refl (fitting l s)
 
 -- ---- what is well formed is good, and the other way round
 
-well-formed-good : {t : List ℕ} (u : List ℕ) → WellFormed t → length t ≤ goodLen (t ++ u)
-well-formed-good u none = omega arith
-well-formed-good u (more {a = a} {b = b} k p q w) =
+-- A well-formed beginning is good, and what is good after it stays good.
+pub well-then : {t : List ℕ} (u : List ℕ) → WellFormed t → goodLen (t ++ u) ≡ length t + goodLen u
+well-then u none = omega arith
+well-then u (more {a = a} {b = b} k p q w) =
     let e : seqLen rows (a ++ b ++ u) ≡ length a = rw append-assoc (sequence-found k (b ++ u) p q) in
     let d : drop (length a) (a ++ b ++ u) ≡ b ++ u = rw append-assoc (drop-append-seam a (b ++ u)) in
     let g : goodLen (a ++ b ++ u) ≡ length a + goodLen (drop (length a) (a ++ b ++ u)) = rw e at (good-step (a ++ b ++ u)) in
-    omega (arith, ap goodLen d, length-append a b, well-formed-good u w)
+    omega (arith, ap goodLen d, length-append a b, well-then u w)
 
 good-well-formed : (k : ℕ) (s : List ℕ) → length s ≤ k → WellFormed (take (goodLen s) s)
 good-well-formed zero s p = let z : goodLen s ≡ 0 = omega (arith, good-fits s) in rw z none
@@ -94,5 +95,5 @@ pub longest : (s : List ℕ) → Longest s (goodLen s)
 longest s = record {
   within = good-fits s;
   good = good-well-formed (length s) s (omega arith);
-  most = λ m p w. omega (arith, well-formed-good (drop m s) w, ap goodLen (take-append-drop m s), length-take-le m s p);
+  most = λ m p w. omega (arith, well-then (drop m s) w, ap goodLen (take-append-drop m s), length-take-le m s p);
 }

@@ -1,19 +1,19 @@
 -- Laws of the table: its rows begin with different bytes, so that a text's first byte decides which row counts.
 use mathlib.Core.Path.{_≡_, refl, sym, ap, _∙_}
-use mathlib.Core.Bool.{Bool, true, false, cond, not, false≢true}
+use mathlib.Core.Bool.{Bool, true, false, cond, not}
 use mathlib.Core.List.{List, [], _∷_}
 use Prim.Native.Nat.{ℕ, zero, suc, _+_, _≤_, _<_, zero-le}
 use native.Mathlib.Nat.{le-of-suc-le-suc, not-suc-le-zero, add-zero}
 use native.Mathlib.Numerals.{add-one}
 use native.Mathlib.Omega.{arith}
 use borrow.Author.Needs.{needs}
-use borrow.Author.Tests.{eqb-true, eq-eqb, not-false}
+use borrow.Author.Tests.{eq-eqb, ne-eqb, not-false}
 use lib.Dec.{eqb, eqb·zero-suc}
-use lib.ListN.{length, getD, drop, length-drop}
+use lib.ListN.{length, getD, drop, length-drop, drop-of-length-le}
 use lib.Seq.{getD-drop}
 use Rattle.text.specs.declared.Row.{Row}
 use Rattle.text.specs.Utf8.{Range, _to_, within, rows, agree, seqLen, best}
-use Rattle.text.specs.Steps.{trail, rangeAt, ranges, rowFor, Starts}
+use Rattle.text.specs.Steps.{trail, rangeAt, ranges, rowFor}
 use Rattle.text.proofs.Agree.{in-range, below-range, above-range, range-in, agree-fits, agree-out, agree-in, agree-grows, agree-lead, length-ranges, range-at}
 
 -- ---- the order of the rows
@@ -143,6 +143,12 @@ row-turn [] k b p = absurd (not-suc-le-zero p)
 row-turn (row ∷ l) zero b p = refl
 row-turn (row ∷ l) (suc k) b p = row-turn l k b (le-of-suc-le-suc p)
 
+pub row-full : (k : ℕ) (row : Row) → k < 9 → ranges row ≡ getD rows k [] → row .4 ≡ 0 → ⊥
+unfolding rows
+row-full k row p is z =
+    let full : 0 < length (ranges row) = rw is (rising-at 0 rows k rows-rising p .0) in
+    omega (arith, full, length-ranges row, z)
+
 module _ (b k : ℕ) (row : Row) (t : Bool) (p : k < 9) (known : Sought b k) (is : ranges row ≡ getD rows k []) (test : t ≡ within (rangeAt row 0) b) where
   turn : rowFor rows b ≡ cond t (getD rows k []) (rowFor (drop (suc k) rows) b)
   unfolding rows
@@ -157,33 +163,18 @@ module _ (b k : ℕ) (row : Row) (t : Bool) (p : k < 9) (known : Sought b k) (is
   pub row-passed : t ≡ false → Sought b (k + 1)
   row-passed e = rw add-one (turn ∙ rw e)
 
--- ---- what `sequence` finds
+-- ---- what `sequence` and `begun` find
 
 lead-of : (s : List ℕ) (at : ℕ) → getD (drop at s) 0 0 ≡ getD s at 0
 lead-of s at = getD-drop at s 0 0 ∙ ap (λ (i : ℕ). getD s i 0) (add-zero at)
 
-ascii-first : (s : List ℕ) → 0 < length s → getD s 0 0 < 0x80 → (1 ≡ best rows s) × (seqLen rows s ≡ 1)
-unfolding seqLen rows agree rowFor
+ascii-first : (s : List ℕ) → 0 < length s → getD s 0 0 < 0x80 → 1 ≡ seqLen rows s
+unfolding seqLen rows agree
 ascii-first [] p q = absurd (not-suc-le-zero p)
-ascii-first (b ∷ s) p q =
-    let i = in-range (0 to 0x7F) b zero-le (omega arith) in
-    (sym (decided 0 rows (b ∷ s) rows-rising .1 ∙ simp i), rw i)
+ascii-first (b ∷ s) p q = rw (in-range (0 to 0x7F) b zero-le (omega arith))
 
-pub starts-ascii : (text : List ℕ) (at : ℕ) → at < length text → getD text at 0 < 0x80 → Starts text at 1 true
-starts-ascii text at p q =
-    let f = ascii-first (drop at text) (omega (arith, length-drop at text)) (omega (arith, lead-of text at)) in
-    record { inside = omega arith; most = f .0; only-whole = f .1; some = λ _. omega arith }
-
-cond-none : (t : Bool) (n : ℕ) → n ≡ 0 → cond t n 0 ≡ 0
-cond-none true n e = e
-cond-none false n e = refl
-
-cond-eqb : (a b : ℕ) → cond (eqb a b) b 0 ≡ cond (eqb a b) a 0
-cond-eqb a b = go (eqb a b) refl
-  where
-    go : (t : Bool) → eqb a b ≡ t → cond t b 0 ≡ cond t a 0
-    go true e = sym (eqb-true a b e)
-    go false e = refl
+pub sequence-ascii : (text : List ℕ) (at : ℕ) → at < length text → getD text at 0 < 0x80 → 1 ≡ seqLen rows (drop at text)
+sequence-ascii text at p q = ascii-first (drop at text) (omega (arith, length-drop at text)) (omega (arith, lead-of text at))
 
 module _ (text : List ℕ) (at : ℕ) (row : Row) (is : ranges row ≡ rowFor rows (getD text at 0)) (p : at < length text) where
   here : ranges row ≡ rowFor rows (getD (drop at text) 0 0)
@@ -194,25 +185,26 @@ module _ (text : List ℕ) (at : ℕ) (row : Row) (is : ranges row ≡ rowFor ro
       let full : 0 < length (rowFor rows (getD (drop at text) 0 0)) = rw (← here) (omega (arith, length-ranges row)) in
       rw here (found-agrees rows (drop at text) (omega (arith, length-drop at text)) full)
 
-  most-of : (n : ℕ) → n ≡ agree (ranges row) (drop at text) → n ≡ best rows (drop at text)
-  most-of n e = e ∙ rw here (sym (decided 0 rows (drop at text) rows-rising .1))
+  pub begun-row : (n : ℕ) → n ≡ agree (ranges row) (drop at text) → n ≡ best rows (drop at text)
+  begun-row n e = e ∙ rw here (sym (decided 0 rows (drop at text) rows-rising .1))
 
   one-row : seqLen rows (drop at text) ≡ cond (eqb (agree (ranges row) (drop at text)) (row .4)) (row .4) 0
   unfolding seqLen
   one-row = rw (length-ranges row) at (rw (← here) at (decided 0 rows (drop at text) rows-rising .0))
 
-  pub starts-none : row .4 ≡ 0 → Starts text at 0 false
-  starts-none e = record {
-    inside = omega arith;
-    most = most-of 0 (omega (arith, agree-fits (ranges row) (drop at text), length-ranges row));
-    only-whole = one-row ∙ cond-none (eqb (agree (ranges row) (drop at text)) (row .4)) (row .4) e;
-    some = λ t. absurd (false≢true t);
-  }
+  pub sequence-none : row .4 ≡ 0 → 0 ≡ seqLen rows (drop at text)
+  sequence-none e = rw (one-row, eq-eqb (agree (ranges row) (drop at text)) (row .4) (omega (arith, agree-fits (ranges row) (drop at text), length-ranges row))) (sym e)
 
-  pub starts-row : (n : ℕ) → n ≡ agree (ranges row) (drop at text) → 0 < n → Starts text at n (eqb n (row .4))
-  starts-row n e q = record {
-    inside = omega (arith, agree-fits (ranges row) (drop at text), length-drop at text);
-    most = most-of n e;
-    only-whole = one-row ∙ rw e (cond-eqb (agree (ranges row) (drop at text)) (row .4));
-    some = λ _. q;
-  }
+  pub sequence-cut : (n : ℕ) → n ≡ agree (ranges row) (drop at text) → n < row .4 → 0 ≡ seqLen rows (drop at text)
+  sequence-cut n e q = rw (one-row, ne-eqb (agree (ranges row) (drop at text)) (row .4) (λ f. omega (arith, e, f)))
+
+  pub sequence-whole : (n : ℕ) → n ≡ agree (ranges row) (drop at text) → row .4 ≤ n → row .4 ≡ seqLen rows (drop at text)
+  sequence-whole n e q = rw (one-row, eq-eqb (agree (ranges row) (drop at text)) (row .4) (omega (arith, e, agree-fits (ranges row) (drop at text), length-ranges row)))
+
+-- No row has the first byte.
+pub begun-none : (text : List ℕ) (at k : ℕ) → 9 ≤ k → Sought (getD text at 0) k → 0 ≡ best rows (drop at text)
+unfolding rowFor agree rows
+begun-none text at k p known =
+    let none : drop k rows ≡ [] = drop-of-length-le rows p in
+    let row : rowFor rows (getD (drop at text) 0 0) ≡ [] = rw (lead-of text at) (known ∙ rw none) in
+    sym (decided 0 rows (drop at text) rows-rising .1 ∙ rw row)

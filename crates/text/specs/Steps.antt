@@ -1,11 +1,11 @@
 -- What the private functions answer: nothing here is the paper's. No promise of a public function cites this file.
 use Prim.Native.Nat.{ℕ, _+_, _-_, _≤_, _<_}
 use mathlib.Core.Path.{_≡_}
-use mathlib.Core.Bool.{Bool, true, cond}
+use mathlib.Core.Bool.{cond}
 use mathlib.Core.List.{List, [], _∷_}
 use lib.ListN.{length, take, drop, getD, replicate}
 use Rattle.text.specs.declared.Row.{Row}
-use Rattle.text.specs.Utf8.{Range, _to_, within, rows, seqLen, goodLen, best}
+use Rattle.text.specs.Utf8.{Range, _to_, within, goodLen}
 
 -- What a third or a fourth byte may be.
 abbrev pub trail : Range
@@ -23,13 +23,6 @@ unfoldable pub rowFor : List (List Range) → ℕ → List Range
 rowFor [] b = []
 rowFor (row ∷ rest) b = cond (within (getD row 0 trail) b) row (rowFor rest b)
 
--- So many bytes of s, from a place on, begin a sequence, and that is the whole sequence or not.
-pub record Starts (s : List ℕ) (at bytes : ℕ) (whole : Bool) : Type 0 where
-  pub inside : at + bytes ≤ length s
-  pub most : bytes ≡ best rows (drop at s)
-  pub only-whole : seqLen rows (drop at s) ≡ cond whole bytes 0
-  pub some : whole ≡ true → 0 < bytes
-
 -- The bytes of s from one place to another are ASCII.
 pub record Ascii (s : List ℕ) (from until : ℕ) : Type 0 where
   pub inside : until ≤ length s
@@ -40,8 +33,3 @@ pub record Passed (s : List ℕ) (from until : ℕ) : Type 0 where
   pub forward : from ≤ until
   pub inside : until ≤ length s
   pub same : from + goodLen (drop from s) ≡ until + goodLen (drop until s)
-
--- No whole sequence stands at a place of s, and so many bytes from there on begin one.
-pub record Stopped (s : List ℕ) (at begun : ℕ) : Type 0 where
-  pub nothing : goodLen (drop at s) ≡ 0
-  pub most : begun ≡ best rows (drop at s)

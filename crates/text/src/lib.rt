@@ -5,8 +5,8 @@ ghost use mathlib.Core.List.{[]};
 ghost use Prim.Native.Nat.{_+_, _-_, _<_, _≤_, min, max};
 ghost use lib.ListN.{length, drop, getD};
 ghost use lib.Dec.{eqb};
-ghost use Rattle.text.specs.Utf8.{_to_, within, rows, agree, seqLen, goodLen, best, checked};
-ghost use Rattle.text.specs.Steps.{rangeAt, ranges, rowFor, Starts, Ascii, Passed, Stopped};
+ghost use Rattle.text.specs.Utf8.{_to_, within, rows, agree, seqLen, goodLen, best, badLen, checked};
+ghost use Rattle.text.specs.Steps.{rangeAt, ranges, rowFor, Ascii, Passed};
 
 // A row of Table 3-7 of the Unicode Standard: the least and the greatest first byte, the least and
 // the greatest second, where there is one, and how many bytes there are. A third and a fourth are
@@ -97,62 +97,40 @@ fn agreeing(text: &[u8], at: usize, row: Row) -> usize
     i
 }
 
-// What a text has at a place: how many bytes begin a sequence, and whether that is all of it.
-struct Found {
-    bytes: usize,
-    whole: bool,
-}
-
-fn sequence(text: &[u8], at: usize) -> Found
+// The length of the sequence at a place, 0 where none is whole.
+fn sequence(text: &[u8], at: usize) -> usize
     requires { ⌜ at < length (now text) ⌝ }
-    ensures { λ r. ⌜ Starts (now (text .entry)) at (r .bytes) (r .whole) ⌝ }
+    ensures { λ r. ⌜ r ≡ seqLen rows (drop at (now (text .entry))) ⌝ }
 {
     let lead = text[at];
     if lead < 0x80 {
-        return Found {
-            bytes: 1,
-            whole: true,
-        };
+        return 1;
     }
     let row = row_of(lead);
     let n = row.4;
     if n == 0 {
-        return Found {
-            bytes: 0,
-            whole: false,
-        };
+        return 0;
     }
-    let bytes = agreeing(text, at, row);
-    Found {
-        bytes,
-        whole: bytes == n,
+    if agreeing(text, at, row) < n {
+        return 0;
     }
+    n
 }
 
-// Where whole sequences end, and how many bytes from there on begin one more.
-struct Stop {
-    at: usize,
-    begun: usize,
-}
-
-// Passes whole sequences, as far as the end or a bad one.
-fn walk(text: &[u8], from: usize) -> Stop
+// Where the whole sequences from a place on end: at the text's end, or at a bad one.
+fn walk(text: &[u8], from: usize) -> usize
     requires { ⌜ from ≤ length (now text) ⌝ }
-    ensures { λ r. ⌜ Passed (now (text .entry)) from (r .at) ⌝ }
-    ensures { λ r. ⌜ Stopped (now (text .entry)) (r .at) (r .begun) ⌝ }
+    ensures { λ r. ⌜ r ≡ from + goodLen (drop from (now (text .entry))) ⌝ }
 {
     let mut at = from;
     while at < text.len() {
-        let found = sequence(text, at);
-        if !found.whole {
-            return Stop {
-                at,
-                begun: found.bytes,
-            };
+        let n = sequence(text, at);
+        if n == 0 {
+            return at;
         }
-        at += found.bytes;
+        at += n;
     }
-    Stop { at, begun: 0 }
+    at
 }
 
 // Whether the first two bytes at a place agree with row k, which has as many at least. Four bytes are
@@ -292,12 +270,11 @@ fn ascii_rest(text: &[u8], from: usize) -> bool
     ascii_at(text, at, WORD)
 }
 
-// Where the well-formed sequences from a place on end. As many bytes as a block has are passed by their
-// sequences before ASCII is tried again, so that the time is linear.
-fn scan_from(text: &[u8], from: usize) -> Stop
+// The same, faster. As many bytes as a block has are passed by their sequences before ASCII is tried again, so
+// that the time is linear.
+fn scan_from(text: &[u8], from: usize) -> usize
     requires { ⌜ from ≤ length (now text) ⌝ }
-    ensures { λ r. ⌜ Passed (now (text .entry)) from (r .at) ⌝ }
-    ensures { λ r. ⌜ Stopped (now (text .entry)) (r .at) (r .begun) ⌝ }
+    ensures { λ r. ⌜ r ≡ from + goodLen (drop from (now (text .entry))) ⌝ }
 {
     let n = text.len();
     let mut at = from;
@@ -309,21 +286,19 @@ fn scan_from(text: &[u8], from: usize) -> Stop
         }
         at = ascii_end(text, at, BLOCK);
     }
-    Stop { at, begun: 0 }
+    at
 }
 
-// Where the longest well-formed beginning ends. A text of ASCII alone ends before the sequences.
-fn scan(text: &[u8]) -> Stop
-    ensures { λ r. ⌜ Passed (now (text .entry)) 0 (r .at) ⌝ }
-    ensures { λ r. ⌜ Stopped (now (text .entry)) (r .at) (r .begun) ⌝ }
+// Where the longest well-formed beginning ends. A text of ASCII alone ends before the sequences. As a part of
+// `well_formed` itself the compiler makes eleven instructions more of it.
+fn scan(text: &[u8]) -> usize
+    ensures { λ r. ⌜ r ≡ goodLen (now (text .entry)) ⌝ }
+    ensures { λ r. ⌜ r ≤ length (now (text .entry)) ⌝ }
 {
     let blocks = ascii_end(text, 0, BLOCK);
     let words = ascii_end(text, blocks, WORD);
     if ascii_rest(text, words) {
-        return Stop {
-            at: text.len(),
-            begun: 0,
-        };
+        return text.len();
     }
     scan_from(text, words)
 }
@@ -333,7 +308,7 @@ pub fn well_formed(text: &[u8]) -> usize
     ensures { λ r. ⌜ r ≡ goodLen (now (text .entry)) ⌝ }
     ensures { λ r. ⌜ r ≤ length (now (text .entry)) ⌝ }
 {
-    scan(text).at
+    scan(text)
 }
 
 // Whether all of `text` is well formed.
@@ -356,6 +331,34 @@ fn bad_of(most: usize, left: usize) -> usize
     most
 }
 
+// How many bytes from a place on begin a sequence. It has a search for the row of its own: a function with one
+// caller is compiled into it, and so a good text doesn't pay for this one.
+fn begun(text: &[u8], at: usize) -> usize
+    requires { ⌜ at < length (now text) ⌝ }
+    ensures { λ r. ⌜ r ≡ best rows (drop at (now (text .entry))) ⌝ }
+{
+    let mut k = 0;
+    while k < 9 {
+        let row = row_at(k);
+        if allows(row, 0, text[at]) {
+            return agreeing(text, at, row);
+        }
+        k += 1;
+    }
+    0
+}
+
+// How many bytes of `text` are bad behind its good beginning: none where nothing follows that, or where more bytes
+// could complete what follows. Whoever refuses a text asks it, and nobody else.
+pub fn bad_length(text: &[u8], good: usize) -> usize
+    ensures { λ r. ⌜ r ≡ badLen (drop good (now (text .entry))) ⌝ }
+{
+    if text.len() <= good {
+        return bad_of(0, 0);
+    }
+    bad_of(begun(text, good), text.len() - good)
+}
+
 // What is good of a text, and how many bytes after that are bad: none where the text is good, or
 // ends inside a sequence.
 pub struct Checked {
@@ -366,8 +369,7 @@ pub struct Checked {
 pub fn examine(text: &[u8]) -> Checked
     ensures { λ r. ⌜ r ≡ checked (now (text .entry)) ⌝ }
 {
-    let stop = scan(text);
-    let good = stop.at;
-    let bad = bad_of(stop.begun, text.len() - good);
+    let good = well_formed(text);
+    let bad = bad_length(text, good);
     Checked { good, bad }
 }

@@ -64,7 +64,7 @@ module _ (s : List ℕ) (at : ℕ) where
       same : good ≡ goodLen (take len (drop (at + 2) s))
       same = g ∙ ap (λ (n : ℕ). goodLen (take n (drop (at + 2) s))) (add-sub-cancel-left (at + 2) len)
 
-      pub garbled : good < len → Faulty (Garbled (at + 2 + good)) ≡ fieldAt s at
+      pub garbled : good < len → Faulty (Garbled (at + 2)) ≡ fieldAt s at
       unfolding fieldAt
       garbled h = rw (le-ltb _ _ two, ← e, le-ltb _ _ whole, ← same, lt-ltb _ _ h)
 

@@ -8,7 +8,7 @@ use lib.ListN.{length}
 use Rattle.answer.specs.declared.Answer.{Answer}
 use Rattle.answer.specs.declared.Answer.the-variants.{Done, Short, NotUtf8, BadText}
 use Rattle.octets.specs.Octets.{pick, field, bigEndian, bigEndianBytes, presence}
-use Rattle.text.specs.Utf8.{goodLen}
+use Rattle.text.specs.Utf8.{goodLen, checked}
 use Rattle.texts.specs.Texts.{isText}
 use Rattle.kind.specs.Write.{_then_, tooLongInput}
 use Rattle.text_fields.specs.declared.MaybeText.{MaybeText}
@@ -61,7 +61,7 @@ unfoldable pub fieldAt : List ℕ → ℕ → Field
 fieldAt s at =
     pick (ltb (length s) (at + 2)) Absent
     (pick (ltb (length s) (at + 2 + lengthAt s at)) (Faulty (Past (at + 2 + lengthAt s at) (length s)))
-    (pick (ltb (goodLen (textAt s at)) (lengthAt s at)) (Faulty (Garbled (at + 2 + goodLen (textAt s at))))
+    (pick (ltb (goodLen (textAt s at)) (lengthAt s at)) (Faulty (Garbled (at + 2)))
     (Whole (at + 2) (lengthAt s at))))
 
 abbrev pub onField : {A : Type 0} → Field → A → (ℕ → ℕ → A) → (Fault → A) → A
@@ -91,10 +91,14 @@ noList = record { place = 0; len = 0; count = 0 }
 abbrev pub runOf : ℕ → ℕ → ℕ → TextList
 runOf from to count = record { place = from; len = to - from; count = count }
 
+-- 4 for the text at a place, whose length stands before it: where its good beginning ends, and how many bytes there are bad
+abbrev pub brokenAt : List ℕ → ℕ → Answer
+brokenAt s place = let t = field s place (lengthAt s (place - 2)) in NotUtf8 (place + goodLen t) (checked t .bad)
+
 -- 1 with field 10 for a length past the end, 4 for a text that isn't UTF-8
-abbrev pub answerOf : Fault → Answer
-answerOf (Past end len) = Short 10 end len
-answerOf (Garbled place) = NotUtf8 place
+abbrev pub answerOf : List ℕ → Fault → Answer
+answerOf s (Past end len) = Short 10 end len
+answerOf s (Garbled place) = brokenAt s place
 
 -- what a step of a reader takes and the place behind it, or the fault that it meets
 pub data Step (A : Type 0) : Type 0 where

@@ -33,9 +33,7 @@ pub(crate) fn field_at(s: &[u8], at: usize) -> Field
     }
     let good = text::well_formed(&s[place..end]);
     if good < len {
-        return Field::Faulty(Fault::Garbled {
-            place: place + good,
-        });
+        return Field::Faulty(Fault::Garbled { place });
     }
     Field::Whole { place, len }
 }

@@ -16,8 +16,9 @@ ghost use Rattle.outer_header_creation_image.specs.OuterHeaderCreationImage as 
 ghost use Rattle.pfd_contents.specs.PfdContents as pfd;
 ghost use Rattle.pfd_contents_image.specs.PfdContentsImage as pfdImage;
 
-// A change of an image's layout, or of a function's parameters, gives it another number.
-const LAYOUT_VERSION: u64 = 1;
+// A change of an image's layout, of what a number in it says, or of a function's parameters, gives it another number. Since 2 the
+// second value of refusal 4 says how the text was broken.
+const LAYOUT_VERSION: u64 = 2;
 
 // 1 for yes and 0 for no.
 fn number_of(verdict: bool) -> u64
@@ -28,7 +29,7 @@ fn number_of(verdict: bool) -> u64
 
 #[no_mangle]
 pub extern "C" fn yerondatt_layout_version() -> u64
-    ensures { λ r. ⌜ r ≡ 1 ⌝ }
+    ensures { λ r. ⌜ r ≡ 2 ⌝ }
 {
     LAYOUT_VERSION
 }

@@ -16,6 +16,7 @@ fn main() {
     no_limits();
     lengths_are_cut();
     errors();
+    broken_texts();
     println!("the published Rust is as docs/FROM-RS-PFCP.md says");
 }
 
@@ -51,4 +52,16 @@ fn errors() {
     assert_eq!(cause(&short), 68);
     assert!(values.iter().all(|error| cause(error) == 69));
     assert!(unbuilt.iter().all(|error| cause(error) == 73));
+}
+
+/// Whether a text was cut is said of PFD Contents alone, in words.
+fn broken_texts() {
+    let reason = |error: PfcpError| match error {
+        PfcpError::InvalidValue { reason, .. } => reason,
+        other => panic!("a text is refused otherwise: {other:?}"),
+    };
+    let name = |byte: u8| reason(NodeId::unmarshal(&[2, byte]).unwrap_err());
+    assert_eq!(name(0xC3), name(0xFF));
+    let text = |byte: u8| reason(PfdContents::unmarshal(&[1, 0, 0, 1, byte]).unwrap_err());
+    assert_ne!(text(0xC3), text(0xFF));
 }

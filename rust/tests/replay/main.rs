@@ -82,7 +82,7 @@ fn outcome(line: &[u8], recorded: &str, full: bool) -> Outcome {
     }
     let line = std::str::from_utf8(line).expect("a line of a known form is a text");
     if line.starts_with("T ") {
-        return text(&payload(line), recorded);
+        return text(&payload(line));
     }
     if !line.contains(['=', '.']) {
         return Answer(payload_answer(line.as_bytes()[0], &payload(line), full, false));
@@ -102,17 +102,16 @@ fn outcome(line: &[u8], recorded: &str, full: bool) -> Outcome {
 
 // ---- payload lines
 
-/// The crate has no check of a text alone. As a name it is accepted, or refused where its good beginning ends.
-fn text(bytes: &[u8], recorded: &str) -> Outcome {
+/// The crate has no check of a text alone. As a name it is accepted, or refused where its good beginning ends, with the
+/// length of the bad sequence there.
+fn text(bytes: &[u8]) -> Outcome {
     let name = [&[2], bytes].concat();
-    let good = match record::read(b'N', &name) {
-        Ok((_, used)) => used - 1,
-        Err(Refusal { why: Why::NotUtf8 { place }, .. }) => place - 1,
-        Err(Refusal { why: Why::InputTooLong { .. }, .. }) => return Without("a text that is too long for a name"),
+    match record::read(b'N', &name) {
+        Ok((_, used)) => Answer(format!("{} 0", used - 1)),
+        Err(Refusal { why: Why::NotUtf8 { place, bad }, .. }) => Answer(format!("{} {bad}", place - 1)),
+        Err(Refusal { why: Why::InputTooLong { .. }, .. }) => Without("a text that is too long for a name"),
         Err(refusal) => panic!("a name is refused: {refusal:?}"),
-    };
-    let (_, bad) = recorded.split_once(' ').expect("two numbers");
-    Answer(format!("{good} {bad}"))
+    }
 }
 
 fn payload_answer(kind: u8, payload: &[u8], full: bool, brief: bool) -> String {
@@ -169,7 +168,7 @@ fn details(refusal: &Refusal) -> String {
         1 => format!("err=1 field={a} exp={b} act={c}"),
         2 => format!("err=2 flags={a:02X} rule={b}"),
         3 => format!("err=3 type={a:02X}"),
-        4 => format!("err=4 place={a}"),
+        4 => format!("err=4 place={a} bad={b}"),
         5 => format!("err=5 len={a}"),
         number => panic!("no reader answers {number}"),
     }

@@ -3,7 +3,7 @@ use native.Mathlib.Omega.{arith}
 use borrow.Author.Needs.{needs}
 use lib.ListN.{length}
 use Rattle.text.specs.Steps.{Passed}
-use Rattle.text.proofs.Laws.{passed-none, passed-on, stopped-end}
+use Rattle.text.proofs.Laws.{passed-none, passed-on, good-end, ended, ended-on}
 use Rattle.text.proofs.scan_from.Statement.{statement}
 use Rattle.text.proofs.scan_from.Tie as tie
 
@@ -31,7 +31,7 @@ walk-requires c κs = search needs
 returns : tie.Need-returns Inv-loop μ-loop
 returns c =
     let s = c .before .before in
-    (passed-on (passed-on (s .before .before .before .loop .inv) (s .stride .ensures)) (c .walk .ensures .0), c .walk .ensures .1)
+    ended-on _ _ _ _ (passed-on (s .before .before .before .loop .inv) (s .stride .ensures)) (c .walk .ensures)
 
 ascii-end-requires : tie.Need-ascii-end-requires Inv-loop μ-loop
 ascii-end-requires c κs = search needs
@@ -45,7 +45,7 @@ loop-again c =
     passed-on (passed-on (s .before .before .before .loop .inv) (s .stride .ensures)) (c .ascii-end .ensures)
 
 returns-2 : tie.Need-returns-2 Inv-loop μ-loop
-returns-2 c = (c .before .loop .inv, search stopped-end)
+returns-2 c = ended _ _ _ (c .before .loop .inv) (search good-end)
 
 pub scan-from-spec : {M : Type 1} → statement M
 scan-from-spec =

@@ -1,10 +1,9 @@
 use Prim.Native.Nat.{_-_}
 use native.Mathlib.Omega.{arith}
 use borrow.Author.Needs.{needs}
-use borrow.Author.Tests.{not-false}
 use lib.ListN.{length}
 use Rattle.text.specs.Steps.{Passed}
-use Rattle.text.proofs.Laws.{passed-none, passed-on, passed-whole, stopped-at, stopped-end}
+use Rattle.text.proofs.Laws.{passed-none, passed-on, inside, passed-whole, good-ends, good-end, ended}
 use Rattle.text.proofs.walk.Statement.{statement}
 use Rattle.text.proofs.walk.Tie as tie
 
@@ -21,19 +20,21 @@ sequence-requires : tie.Need-sequence-requires Inv-loop μ-loop
 sequence-requires c κs = search needs
 
 returns : tie.Need-returns Inv-loop μ-loop
-returns c = (c .before .before .before .before .loop .inv, search stopped-at)
+returns c = ended _ _ _ (c .before .before .before .loop .inv) (search good-ends)
 
 add-at : tie.Need-add-at Inv-loop μ-loop
-add-at c = search needs
+add-at c =
+    let l = c .before .before .before in
+    search (needs, inside (l .before .before .args .text .now) (l .loop .at) (c .before .sequence .result) (c .before .sequence .ensures))
 
 loop-less : tie.Need-loop-less Inv-loop μ-loop
-loop-less c = omega (arith, c .before .before .before .sequence .ensures .some (not-false _ (c .before .if1 .left)))
+loop-less c = search needs
 
 loop-again : tie.Need-loop-again Inv-loop μ-loop
-loop-again c = passed-on (c .before .before .before .before .before .loop .inv) (search passed-whole)
+loop-again c = passed-on (c .before .before .before .loop .inv) (search passed-whole)
 
 returns-2 : tie.Need-returns-2 Inv-loop μ-loop
-returns-2 c = (c .before .loop .inv, search stopped-end)
+returns-2 c = ended _ _ _ (c .before .loop .inv) (search good-end)
 
 pub walk-spec : {M : Type 1} → statement M
 walk-spec =

@@ -45,4 +45,4 @@ field-at-spec =
     tie.close
     (tie.spec
     (λ c κs. search needs) returns (λ c κs. search needs) add-place add-end returns-2 (λ c. search needs)
-    (λ c. search needs) (λ c. search needs) (λ c κs. search needs) (λ c. search needs) returns-3 returns-4)
+    (λ c. search needs) (λ c. search needs) (λ c κs. search needs) returns-3 returns-4)
