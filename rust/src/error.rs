@@ -231,8 +231,8 @@ impl fmt::Display for Why {
             Why::NotUtf8 { place, bad } => {
                 match bad {
                     1 => write!(f, "byte {place}")?,
-                    2 => write!(f, "bytes {place} and {}", place + 1)?,
-                    _ => write!(f, "bytes {place} to {}", place + bad - 1)?,
+                    2 => write!(f, "bytes {place} and {}", place.saturating_add(1))?,
+                    _ => write!(f, "bytes {place} to {}", place.saturating_add(bad - 1))?,
                 }
                 f.write_str(" of the payload can't stand there in UTF-8")
             }
