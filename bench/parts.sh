@@ -74,9 +74,11 @@ by_callgrind() { # COUNTS SECTIONS PROGRAM [ARGUMENT ..]
     done >"$counts"
 }
 by_plugin() { # COUNTS SECTIONS PROGRAM [ARGUMENT ..]
-    local counts=$1 sections=$2 mark api
-    shift 2
-    mark=$("${emulator[@]}" "$1" addr)
+    from_mark "$1" "$2" "$("${emulator[@]}" "$3" addr)" "${@:3}"
+}
+from_mark() { # COUNTS SECTIONS ADDRESS PROGRAM [ARGUMENT ..]
+    local counts=$1 sections=$2 mark=$3 api
+    shift 3
     for api in 1 2 3 4 5 6; do
         gcc -shared -fPIC -O2 -DAPI=$api -o "$out/count.so" "$here/count.c"
         rm -f "$counts"

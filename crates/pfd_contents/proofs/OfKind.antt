@@ -32,11 +32,11 @@ use Rattle.text_fields.proofs.Carry.{Cut, text-kept, list-kept}
 -- ---- what an accepted payload has
 
 -- a step that didn't end the reading took something
-taking : {A B : Type 0} (s : List ℕ) (x : Step A) (rest : A → ℕ → PfdContentsRead) → _into_ s x rest .answer ≡ Done → ((got : A) (next : ℕ) → x ≡ took got next → rest got next .answer ≡ Done → B) → B
+taking : {A B : Type 0} (x : Step A) (rest : A → ℕ → PfdContentsRead) → (x into rest) .answer ≡ Done → ((got : A) (next : ℕ) → x ≡ took got next → rest got next .answer ≡ Done → B) → B
 unfolding refused
-taking s (took x at) rest h then-so = then-so x at refl h
-taking s (broke (Past e l)) rest h then-so = let z : _≡_ {A = ℕ} 0 1 = cc in absurd (omega arith)
-taking s (broke (Garbled p)) rest h then-so = let z : _≡_ {A = ℕ} 0 1 = cc in absurd (omega arith)
+taking (took x at) rest h then-so = then-so x at refl h
+taking (broke (Past e l)) rest h then-so = let z : _≡_ {A = ℕ} 0 1 = cc in absurd (omega arith)
+taking (broke (Garbled p b)) rest h then-so = let z : _≡_ {A = ℕ} 0 1 = cc in absurd (omega arith)
 
 -- eight steps that took something are a reading that is done
 replay : (s : List ℕ) (f : ℕ) {x₁ x₂ x₃ x₄ x₅ : MaybeText} {x₆ x₇ x₈ : TextList} {n₁ n₂ n₃ n₄ n₅ n₆ n₇ n₈ : ℕ}
@@ -178,14 +178,14 @@ ended s f b two {x₁} {x₂} {x₃} {x₄} {x₅} {x₆} {x₇} {x₈} {n₁} {
 done-at : (s : List ℕ) (f : ℕ) → Bytes s → 2 ≤ length s → readFields s f .answer ≡ Done → Ended s f
 unfolding readFields
 done-at s f b two h =
-    taking s (text s (bit 0 f) 2) _ h (λ x₁ n₁ e₁ h₁.
-    taking s (text s (bit 1 f) n₁) _ h₁ (λ x₂ n₂ e₂ h₂.
-    taking s (text s (bit 2 f) n₂) _ h₂ (λ x₃ n₃ e₃ h₃.
-    taking s (text s (bit 3 f) n₃) _ h₃ (λ x₄ n₄ e₄ h₄.
-    taking s (text s (bit 4 f) n₄) _ h₄ (λ x₅ n₅ e₅ h₅.
-    taking s (list s (bit 5 f) (bit 6 f || bit 7 f) n₅) _ h₅ (λ x₆ n₆ e₆ h₆.
-    taking s (list s (bit 6 f) (bit 7 f) n₆) _ h₆ (λ x₇ n₇ e₇ h₇.
-    taking s (list s (bit 7 f) false n₇) _ h₇ (λ x₈ n₈ e₈ h₈.
+    taking (text s (bit 0 f) 2) _ h (λ x₁ n₁ e₁ h₁.
+    taking (text s (bit 1 f) n₁) _ h₁ (λ x₂ n₂ e₂ h₂.
+    taking (text s (bit 2 f) n₂) _ h₂ (λ x₃ n₃ e₃ h₃.
+    taking (text s (bit 3 f) n₃) _ h₃ (λ x₄ n₄ e₄ h₄.
+    taking (text s (bit 4 f) n₄) _ h₄ (λ x₅ n₅ e₅ h₅.
+    taking (list s (bit 5 f) (bit 6 f || bit 7 f) n₅) _ h₅ (λ x₆ n₆ e₆ h₆.
+    taking (list s (bit 6 f) (bit 7 f) n₆) _ h₆ (λ x₇ n₇ e₇ h₇.
+    taking (list s (bit 7 f) false n₇) _ h₇ (λ x₈ n₈ e₈ h₈.
     ended s f b two e₁ e₂ e₃ e₄ e₅ e₆ e₇ e₈))))))))
 
 -- what a test leaves that doesn't refuse

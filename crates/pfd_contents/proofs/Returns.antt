@@ -23,42 +23,42 @@ use Rattle.text_fields.specs.declared.ListStep.{ListStep}
 
 -- ---- the row
 
-module _ (s : List ℕ) where
-  -- what is read from where a walk came to
-  abbrev pub run : Walk → (ℕ → PfdContentsRead) → PfdContentsRead
-  run (At at) rest = rest at
-  run (Stopped fault) rest = refused (answerOf s fault)
+-- what is read from where a walk came to
+abbrev pub run : Walk → (ℕ → PfdContentsRead) → PfdContentsRead
+run (At at) rest = rest at
+run (Stopped fault) rest = refused (answerOf fault)
 
+module _ (s : List ℕ) where
   text-law : (w : Walk) (b : Bool) (rest : MaybeText → ℕ → PfdContentsRead) {t : TextStep} → t ≡ textStep s w b
-      → run w (λ at. _into_ s (text s b at) rest) ≡ run (t .walk) (rest (t .text))
+      → run w (λ at. text s b at into rest) ≡ run (t .walk) (rest (t .text))
   unfolding textStep
   text-law w b rest e = go w ∙ ap (λ (t : TextStep). run (t .walk) (rest (t .text))) (sym e)
     where
-      by : (x : Step MaybeText) → _into_ s x rest ≡ run (textTo x .walk) (rest (textTo x .text))
+      by : (x : Step MaybeText) → (x into rest) ≡ run (textTo x .walk) (rest (textTo x .text))
       by (took x at) = refl
       by (broke fault) = refl
 
-      go : (w : Walk) → run w (λ at. _into_ s (text s b at) rest) ≡ run (textStep s w b .walk) (rest (textStep s w b .text))
+      go : (w : Walk) → run w (λ at. text s b at into rest) ≡ run (textStep s w b .walk) (rest (textStep s w b .text))
       go (At at) = by (text s b at)
       go (Stopped fault) = refl
 
   list-law : (w : Walk) (b later : Bool) (rest : TextList → ℕ → PfdContentsRead) {t : ListStep} → t ≡ listStep s w b later
-      → run w (λ at. _into_ s (list s b later at) rest) ≡ run (t .walk) (rest (t .list))
+      → run w (λ at. list s b later at into rest) ≡ run (t .walk) (rest (t .list))
   unfolding listStep
   list-law w b later rest e = go w ∙ ap (λ (t : ListStep). run (t .walk) (rest (t .list))) (sym e)
     where
-      by : (x : Step TextList) → _into_ s x rest ≡ run (listTo x .walk) (rest (listTo x .list))
+      by : (x : Step TextList) → (x into rest) ≡ run (listTo x .walk) (rest (listTo x .list))
       by (took x at) = refl
       by (broke fault) = refl
 
-      go : (w : Walk) → run w (λ at. _into_ s (list s b later at) rest) ≡ run (listStep s w b later .walk) (rest (listStep s w b later .list))
+      go : (w : Walk) → run w (λ at. list s b later at into rest) ≡ run (listStep s w b later .walk) (rest (listStep s w b later .list))
       go (At at) = by (list s b later at)
       go (Stopped fault) = refl
 
 -- a walk over the fields, and the record of what it took
 pub record Walked (s : List ℕ) (f : ℕ) (w : Walk) : Type 0 where
   pub taken : PfdContents
-  pub is : run s w (λ at. accepted at taken) ≡ readFields s f
+  pub is : run w (λ at. accepted at taken) ≡ readFields s f
 
 -- that of a reader, from its steps in their order
 pub walked : (s : List ℕ) (f : ℕ) {flow url domain custom protocol : TextStep} {flows urls names : ListStep} {u n m : Bool}
@@ -73,7 +73,7 @@ pub walked : (s : List ℕ) (f : ℕ) {flow url domain custom protocol : TextSte
     → flows ≡ listStep s (protocol .walk) (bit 5 f) m
     → urls ≡ listStep s (flows .walk) (bit 6 f) n
     → names ≡ listStep s (urls .walk) (bit 7 f) false
-    → run s (names .walk) (λ at. accepted at (pfdOf f (flow .text) (url .text) (domain .text) (custom .text) (protocol .text) (flows .list) (urls .list) (names .list))) ≡ readFields s f
+    → run (names .walk) (λ at. accepted at (pfdOf f (flow .text) (url .text) (domain .text) (custom .text) (protocol .text) (flows .list) (urls .list) (names .list))) ≡ readFields s f
 unfolding readFields
 walked s f {flow} {url} {domain} {custom} {protocol} {flows} {urls} {names} eu en em e₁ e₂ e₃ e₄ e₅ e₆ e₇ e₈ =
     let f₆ : flows ≡ listStep s (protocol .walk) (bit 5 f) (bit 6 f || bit 7 f) = cc in
@@ -92,7 +92,7 @@ module _ {s : List ℕ} {f : ℕ} {w : Walk} (h : Walked s f w) where
   pub all-taken : {at : ℕ} → w ≡ At at → accepted at (h .taken) ≡ readFields s f
   all-taken k = rw k at (h .is)
 
-  pub stopped : {fault : Fault} {a : Answer} → w ≡ Stopped fault → a ≡ answerOf s fault → refused a ≡ readFields s f
+  pub stopped : {fault : Fault} {a : Answer} → w ≡ Stopped fault → a ≡ answerOf fault → refused a ≡ readFields s f
   stopped k p = ap refused p ∙ (rw k at (h .is))
 
 -- ---- by the length, then by the fields

@@ -85,26 +85,24 @@ refused a = record { answer = a; used = 0; «record» = emptyPfd }
 abbrev pub accepted : ℕ → PfdContents → PfdContentsRead
 accepted n r = record { answer = Done; used = n; «record» = r }
 
--- of a payload s
-module _ (s : List ℕ) where
-  -- a fault ends the reading
-  infixr 10 _into_
-  abbrev pub _into_ : {A : Type 0} → Step A → (A → ℕ → PfdContentsRead) → PfdContentsRead
-  took x at into rest = rest x at
-  broke fault into rest = refused (answerOf s fault)
+-- a fault ends the reading
+infixr 10 _into_
+abbrev pub _into_ : {A : Type 0} → Step A → (A → ℕ → PfdContentsRead) → PfdContentsRead
+took x at into rest = rest x at
+broke fault into rest = refused (answerOf fault)
 
-  -- the eight fields in wire order, behind the flags f and the spare byte
-  unfoldable pub readFields : ℕ → PfdContentsRead
-  readFields f =
-      text s (bit 0 f) 2 into λ flow at₁.
-      text s (bit 1 f) at₁ into λ url at₂.
-      text s (bit 2 f) at₂ into λ domain at₃.
-      text s (bit 3 f) at₃ into λ custom at₄.
-      text s (bit 4 f) at₄ into λ protocol at₅.
-      list s (bit 5 f) (bit 6 f || bit 7 f) at₅ into λ flows at₆.
-      list s (bit 6 f) (bit 7 f) at₆ into λ urls at₇.
-      list s (bit 7 f) false at₇ into λ names at₈.
-      accepted at₈ (pfdOf f flow url domain custom protocol flows urls names)
+-- the eight fields in wire order, behind the flags f and the spare byte
+unfoldable pub readFields : List ℕ → ℕ → PfdContentsRead
+readFields s f =
+    text s (bit 0 f) 2 into λ flow at₁.
+    text s (bit 1 f) at₁ into λ url at₂.
+    text s (bit 2 f) at₂ into λ domain at₃.
+    text s (bit 3 f) at₃ into λ custom at₄.
+    text s (bit 4 f) at₄ into λ protocol at₅.
+    list s (bit 5 f) (bit 6 f || bit 7 f) at₅ into λ flows at₆.
+    list s (bit 6 f) (bit 7 f) at₆ into λ urls at₇.
+    list s (bit 7 f) false at₇ into λ names at₈.
+    accepted at₈ (pfdOf f flow url domain custom protocol flows urls names)
 
 -- the tests in their order: 5, the two bytes that come first, the fields
 unfoldable pub read : List ℕ → PfdContentsRead

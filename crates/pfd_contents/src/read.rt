@@ -73,7 +73,7 @@ fn read_fields(payload: &[u8], flags: u8) -> PfdContentsRead
             used,
             record,
         },
-        Walk::Stopped(fault) => refused(fault.answer(payload)),
+        Walk::Stopped(fault) => refused(fault.answer()),
     }
 }
 

@@ -169,10 +169,10 @@ not-read a =
     laid emptyPfd t t t t t l l l
 
 fine-into : {A : Type 0} (s : List ℕ) (short : length s ≤ 65535) (Small : A → Type 0) (x : Step A) (rest : A → ℕ → PfdContentsRead) → Within s short Small x
-    → ((a : A) (n : ℕ) → Small a → n ≤ length s → Fine (rest a n)) → Fine (_into_ s x rest)
+    → ((a : A) (n : ℕ) → Small a → n ≤ length s → Fine (rest a n)) → Fine (x into rest)
 fine-into s short Small (took a n) rest (k, h) f = f a n k h
 fine-into s short Small (broke (Past e l)) rest k f = not-read _
-fine-into s short Small (broke (Garbled p)) rest k f = not-read _
+fine-into s short Small (broke (Garbled p b)) rest k f = not-read _
 
 of-fields : (s : List ℕ) (f : ℕ) → length s ≤ 65535 → 2 ≤ length s → Fine (readFields s f)
 unfolding readFields

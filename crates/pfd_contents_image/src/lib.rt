@@ -156,7 +156,7 @@ fn read_fields(payload: &[u8], flags: u8, image: &mut [u8]) -> u64
             put_image(image, used, record);
             0
         }
-        Walk::Stopped(fault) => image::put_refused(image, SIZE, fault.answer(payload)),
+        Walk::Stopped(fault) => image::put_refused(image, SIZE, fault.answer()),
     }
 }
 

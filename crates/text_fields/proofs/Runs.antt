@@ -5,12 +5,12 @@ use mathlib.Core.List.{List}
 use mathlib.Core.Bool.{Bool, true, false, not, _&&_}
 use native.Mathlib.Omega.{arith}
 use native.Mathlib.Nat.{add-sub-cancel-left}
-use borrow.Author.Tests.{lt-ltb, le-ltb, ltb-true, ltb-false}
+use borrow.Author.Tests.{lt-ltb, le-ltb, ltb-true, ltb-false, eq-eqb, ne-eqb}
 use lib.Dec.{ltb, eqb}
 use lib.ListN.{length, take, drop, length-take, length-drop}
 use Rattle.octets.specs.Octets.{pick, bigEndian}
 use Rattle.octets.proofs.Laws.{number-field}
-use Rattle.text.specs.Utf8.{goodLen}
+use Rattle.text.specs.Utf8.{goodLen, badLen, checked}
 use Rattle.texts.specs.Texts.{isText}
 use Rattle.text_fields.specs.Fields.{lengthAt, fieldAt, textAt, entries, onField, isMaybe, isEmpty, isList}
 use Rattle.text_fields.specs.declared.MaybeText.{MaybeText}
@@ -25,22 +25,16 @@ use lib.Dec.{leb}
 
 -- ---- the length
 
--- the two bytes of a length, as far as there are any
-module _ (s : List ℕ) (at : ℕ) {p : List ℕ} (e : p ≡ take 2 (drop at s)) where
-  head-length : length p ≡ length (take 2 (drop at s))
-  head-length = ap length e
-
-  pub no-head : length p < 2 → length s < at + 2
-  no-head h = omega (arith, head-length, length-take 2 (drop at s), length-drop at s)
-
-  pub head : 2 ≤ length p → at + 2 ≤ length s
-  head h = omega (arith, head-length, length-take 2 (drop at s), length-drop at s)
+-- the two bytes of a length, from their place on
+module _ (s : List ℕ) (at : ℕ) {p : List ℕ} (e : p ≡ take (at + 2 - at) (drop at s)) where
+  two : p ≡ take 2 (drop at s)
+  two = e ∙ ap (λ (n : ℕ). take n (drop at s)) (add-sub-cancel-left at 2)
 
   pub length-is : {r : ℕ} → r ≡ pick (leb (length p) 8) (bigEndian p) 0 → r ≡ lengthAt s at
-  length-is q = q ∙ ap (λ (l : List ℕ). pick (leb (length l) 8) (bigEndian l) 0) e ∙ number-field s at 2 (omega arith)
+  length-is q = q ∙ ap (λ (l : List ℕ). pick (leb (length l) 8) (bigEndian l) 0) two ∙ number-field s at 2 (omega arith)
 
   pub length-small : {r : ℕ} → r < 256 ^ length p → r < 65536
-  length-small {r} h = go (length p) (omega (arith, head-length, length-take 2 (drop at s))) h
+  length-small {r} h = go (length p) (omega (arith, ap length two, length-take 2 (drop at s))) h
     where
       go : (n : ℕ) → n ≤ 2 → r < 256 ^ n → r < 65536
       go zero l h = omega arith
@@ -64,9 +58,11 @@ module _ (s : List ℕ) (at : ℕ) where
       same : good ≡ goodLen (take len (drop (at + 2) s))
       same = g ∙ ap (λ (n : ℕ). goodLen (take n (drop (at + 2) s))) (add-sub-cancel-left (at + 2) len)
 
-      pub garbled : good < len → Faulty (Garbled (at + 2)) ≡ fieldAt s at
-      unfolding fieldAt
-      garbled h = rw (le-ltb _ _ two, ← e, le-ltb _ _ whole, ← same, lt-ltb _ _ h)
+      pub garbled : {bad : ℕ} → good < len → bad ≡ badLen (drop good (take (at + 2 + len - (at + 2)) (drop (at + 2) s))) → Faulty (Garbled (at + 2 + good) bad) ≡ fieldAt s at
+      unfolding fieldAt checked
+      garbled h b =
+          let how = b ∙ ap (λ (n : ℕ). badLen (drop good (take n (drop (at + 2) s)))) (add-sub-cancel-left (at + 2) len) in
+          rw (le-ltb _ _ two, ← e, le-ltb _ _ whole, ← same, lt-ltb _ _ h, ← how)
 
       pub whole-there : len ≤ good → Whole (at + 2) len ≡ fieldAt s at
       unfolding fieldAt
@@ -187,11 +183,17 @@ module _ (t : List ℕ) (x : TextList) (b : Bool) (e : b ≡ isEmpty x) where
   unfolding isList
   list-empty h = rw (← e, h)
 
-  module _ (h : b ≡ false) (r : Entries) (q : r ≡ entries (x .count) t (x .place) 0) where
-    pub list-run : (k next : ℕ) (g : Bool) → r ≡ Run k next → g ≡ (eqb k (x .count) && eqb (next - x .place) (x .len)) → g ≡ isList t x
+  module _ (h : b ≡ false) where
+    -- all its fields are there
+    pub list-run : (k next : ℕ) (g : Bool) → k ≤ x .count → x .count ≤ k → Run k next ≡ entries (x .count) t (x .place) 0 → g ≡ eqb (next - x .place) (x .len) → g ≡ isList t x
     unfolding isList
-    list-run k next g d p = rw (← e, h, ← q, d) p
+    list-run k next g l m q p = rw (← e, h, ← q, eq-eqb k (x .count) (omega arith)) p
 
-    pub list-broken : (f : Fault) → r ≡ Broken f → false ≡ isList t x
+    -- there are fewer
+    pub list-short : (k next : ℕ) → k < x .count → Run k next ≡ entries (x .count) t (x .place) 0 → false ≡ isList t x
     unfolding isList
-    list-broken f d = rw (← e, h, ← q, d)
+    list-short k next l q = rw (← e, h, ← q, ne-eqb k (x .count) (λ z. omega arith))
+
+    pub list-broken : (f : Fault) → Broken f ≡ entries (x .count) t (x .place) 0 → false ≡ isList t x
+    unfolding isList
+    list-broken f q = rw (← e, h, ← q)

@@ -2,7 +2,7 @@
 use Prim.Native.Nat.{ℕ, _+_, _≤_, _<_}
 use native.Mathlib.Omega.{arith}
 use mathlib.Core.Path.{_≡_, ap, sym, refl, _∙_}
-use mathlib.Core.List.{List, [], _++_}
+use mathlib.Core.List.{List, [], _∷_, _++_}
 use mathlib.Core.Bool.{Bool, true, false, not}
 use borrow.Author.Tests.{le-leb, lt-leb, eq-eqb, ne-eqb, not-true, not-false}
 use lib.Dec.{leb}
@@ -84,6 +84,13 @@ module _ (d : List ℕ) (at : ℕ) (t : List ℕ) where
           )
 
   module _ (x : TextList) (p : List ℕ) (e : p ≡ take (x .len) (drop (x .place) t)) where
+    pub list-none : length p ≡ 0 → Stored d at (runBytes t x) at d
+    list-none h = rw (← e) (go p h)
+      where
+        go : (p : List ℕ) → length p ≡ 0 → Stored d at p at d
+        go [] h = nothing-put d at
+        go (b ∷ p) h = absurd (omega arith)
+
     pub list-not : length d < at + length p → Stored d at (runBytes t x) at d
     list-not g = rw (← e) (no-room d at p g)
 

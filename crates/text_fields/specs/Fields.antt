@@ -56,12 +56,13 @@ listWire (t ∷ ts) = fieldOf t ++ listWire ts
 
 -- ---- reading
 
--- The field at a place. Fewer than two bytes left: none. A length past the end is a fault, tested before UTF-8.
+-- The field at a place. Fewer than two bytes left: none. A length past the end is a fault, tested before UTF-8. So is a text that isn't UTF-8: where its
+-- good beginning ends, and how many bytes there are bad.
 unfoldable pub fieldAt : List ℕ → ℕ → Field
 fieldAt s at =
     pick (ltb (length s) (at + 2)) Absent
     (pick (ltb (length s) (at + 2 + lengthAt s at)) (Faulty (Past (at + 2 + lengthAt s at) (length s)))
-    (pick (ltb (goodLen (textAt s at)) (lengthAt s at)) (Faulty (Garbled (at + 2)))
+    (pick (ltb (goodLen (textAt s at)) (lengthAt s at)) (Faulty (Garbled (at + 2 + goodLen (textAt s at)) (checked (textAt s at) .bad)))
     (Whole (at + 2) (lengthAt s at))))
 
 abbrev pub onField : {A : Type 0} → Field → A → (ℕ → ℕ → A) → (Fault → A) → A
@@ -91,14 +92,10 @@ noList = record { place = 0; len = 0; count = 0 }
 abbrev pub runOf : ℕ → ℕ → ℕ → TextList
 runOf from to count = record { place = from; len = to - from; count = count }
 
--- 4 for the text at a place, whose length stands before it: where its good beginning ends, and how many bytes there are bad
-abbrev pub brokenAt : List ℕ → ℕ → Answer
-brokenAt s place = let t = field s place (lengthAt s (place - 2)) in NotUtf8 (place + goodLen t) (checked t .bad)
-
 -- 1 with field 10 for a length past the end, 4 for a text that isn't UTF-8
-abbrev pub answerOf : List ℕ → Fault → Answer
-answerOf s (Past end len) = Short 10 end len
-answerOf s (Garbled place) = brokenAt s place
+abbrev pub answerOf : Fault → Answer
+answerOf (Past end len) = Short 10 end len
+answerOf (Garbled place bad) = NotUtf8 place bad
 
 -- what a step of a reader takes and the place behind it, or the fault that it meets
 pub data Step (A : Type 0) : Type 0 where

@@ -7,8 +7,7 @@ mod write;
 pub use add::ListAdded;
 use answer::Answer;
 ghost use mathlib.Core.Path.{_≡_};
-ghost use Prim.Native.Nat.{_-_};
-ghost use Rattle.text_fields.specs.Fields.{brokenAt, answerOf};
+ghost use Rattle.text_fields.specs.Fields.{answerOf};
 
 // A text that may be absent: its place and its length.
 pub struct MaybeText {
@@ -24,10 +23,10 @@ pub struct TextList {
     pub count: usize,
 }
 
-// What is wrong with a field: it ends past the end, or the text at a place isn't UTF-8.
+// What is wrong with a field: it ends past the end, or its text isn't UTF-8 from a place on, where so many bytes are bad.
 pub enum Fault {
     Past { end: usize, len: usize },
-    Garbled { place: usize },
+    Garbled { place: usize, bad: usize },
 }
 
 // How far a reader has come: the place behind what it took, or the fault at which it stopped.
@@ -62,33 +61,10 @@ impl TextList {
     };
 }
 
-// Where the two bytes before a place stand.
-fn two_before(place: usize) -> usize
-    ensures { λ r. ⌜ r ≡ place - 2 ⌝ }
-{
-    if place < 2 {
-        return 0;
-    }
-    place - 2
-}
-
-// The answer to a payload whose text at a place isn't UTF-8. The text is looked at once more, to say how it is broken: a fault that
-// says more would cost every reader and writer that meets none.
-fn broken_at(payload: &[u8], place: usize) -> Answer
-    ensures { λ r. ⌜ r ≡ brokenAt (now (payload .entry)) place ⌝ }
-{
-    let len = octets::number(texts::part(payload, two_before(place), 2));
-    let checked = text::examine(texts::part(payload, place, len as usize));
-    Answer::NotUtf8 {
-        place: place + checked.good,
-        bad: checked.bad,
-    }
-}
-
 impl Fault {
     // The answer to a payload that has it.
-    pub fn answer(self, payload: &[u8]) -> Answer
-        ensures { λ r. ⌜ r ≡ answerOf (now (payload .entry)) self ⌝ }
+    pub fn answer(self) -> Answer
+        ensures { λ r. ⌜ r ≡ answerOf self ⌝ }
     {
         match self {
             Fault::Past { end, len } => Answer::Short {
@@ -96,7 +72,7 @@ impl Fault {
                 expected: end,
                 actual: len,
             },
-            Fault::Garbled { place } => broken_at(payload, place),
+            Fault::Garbled { place, bad } => Answer::NotUtf8 { place, bad },
         }
     }
 }

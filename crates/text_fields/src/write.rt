@@ -71,7 +71,8 @@ impl TextList {
         field
     }
 
-    // Puts the run as it stands, and returns the place behind it: the same place where it doesn't fit.
+    // Puts the run as it stands, and returns the place behind it: the same place where it doesn't fit. A run of no bytes is passed over at
+    // once, since most records have no list.
     pub fn put(self, texts: &[u8], out: &mut [u8], at: usize) -> usize
         ensures { λ r. ⌜ r ≡ behindPut (length (now (out .entry))) at (runBytes (now (texts .entry)) self) ⌝ }
         ensures { λ r. ⌜ now (out .exit) ≡ put (now (out .entry)) at (runBytes (now (texts .entry)) self) ⌝ }
@@ -79,6 +80,9 @@ impl TextList {
         let place = self.place;
         let len = self.len;
         let run = texts::part(texts, place, len);
+        if run.len() == 0 {
+            return at;
+        }
         if out.len() < run.len() {
             return at;
         }
