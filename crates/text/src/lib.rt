@@ -289,8 +289,7 @@ fn scan_from(text: &[u8], from: usize) -> usize
     at
 }
 
-// Where the longest well-formed beginning ends. A text of ASCII alone ends before the sequences. As a part of
-// `well_formed` itself the compiler makes eleven instructions more of it.
+// Where the longest well-formed beginning ends. A text of ASCII alone ends before the sequences.
 fn scan(text: &[u8]) -> usize
     ensures { λ r. ⌜ r ≡ goodLen (now (text .entry)) ⌝ }
     ensures { λ r. ⌜ r ≤ length (now (text .entry)) ⌝ }
@@ -303,8 +302,8 @@ fn scan(text: &[u8]) -> usize
     scan_from(text, words)
 }
 
-// The length of the longest beginning of `text` that is well formed. Its own parameter isn't handed on, so that the compiler passes it in
-// registers: four instructions fewer for each text.
+// The length of the longest beginning of `text` that is well formed. What it hands on is a part, and not its parameter, so that the
+// compiler passes a text in registers: four instructions fewer for a name.
 pub fn well_formed(text: &[u8]) -> usize
     ensures { λ r. ⌜ r ≡ goodLen (now (text .entry)) ⌝ }
     ensures { λ r. ⌜ r ≤ length (now (text .entry)) ⌝ }
