@@ -78,7 +78,8 @@ fn read_fields(payload: &[u8], flags: u8) -> PfdContentsRead
 }
 
 impl PfdContents {
-    // The time is linear: each byte of a text goes through the UTF-8 check once, and of a broken text four more are looked at, to say how.
+    // The time is linear: each byte of a text goes through the UTF-8 check once, and up to four of a broken one
+    // are looked at again, to say how.
     pub fn unmarshal(payload: &[u8]) -> PfdContentsRead
         ensures { λ r. ⌜ r ≡ read (now (payload .entry)) ⌝ }
     {
