@@ -70,8 +70,8 @@ impl TextList {
     }
 }
 
-// A list that is empty, or a run of the slice that is just so many good fields and just so many bytes. Its walk isn't `entries_at`: with
-// that the compiler makes 40 instructions more of a write of all eight fields.
+// A list that is empty, or a run of the slice that is just so many good fields and just so many bytes. It has a walk of
+// its own: by way of `entries_at` the compiler makes a slower writer.
 pub(crate) fn is_list(texts: &[u8], x: TextList) -> bool
     ensures { λ r. ⌜ r ≡ isList (now (texts .entry)) x ⌝ }
 {
