@@ -46,6 +46,8 @@ pub enum Answer {
     },
     // 10: a number that is no sequence number, in a distance.
     NoSequenceNumber,
+    // 11: an IE of length zero whose type may not have it.
+    ZeroLength,
 }
 
 // The values that the paper gives with an answer, in its order; those that it doesn't name are 0.
@@ -78,6 +80,7 @@ impl Answer {
             Answer::NoRoom { needed: _ } => 8,
             Answer::Unbuilt { rule: _ } => 9,
             Answer::NoSequenceNumber => 10,
+            Answer::ZeroLength => 11,
         }
     }
 
@@ -101,6 +104,7 @@ impl Answer {
             Answer::NoRoom { needed } => Values(needed, 0, 0),
             Answer::Unbuilt { rule } => Values(rule as usize, 0, 0),
             Answer::NoSequenceNumber => Values(0, 0, 0),
+            Answer::ZeroLength => Values(0, 0, 0),
         }
     }
 }

@@ -7,7 +7,7 @@ use mathlib.Core.List.{List, _∷_}
 use lib.ListN.{length, getD, take, drop}
 use borrow.Author.Tests.{le-leb, lt-leb}
 use Rattle.answer.specs.declared.Answer.{Answer}
-use Rattle.answer.specs.declared.Answer.the-variants.{Done, Short, Flags, NodeType, NotUtf8, InputTooLong, BadText, OutputTooLong, NoRoom, Unbuilt, NoSequenceNumber}
+use Rattle.answer.specs.declared.Answer.the-variants.{Done, Short, Flags, NodeType, NotUtf8, InputTooLong, BadText, OutputTooLong, NoRoom, Unbuilt, NoSequenceNumber, ZeroLength}
 use Rattle.answer.specs.Paper.{numberOf, written}
 use Rattle.octets.specs.Octets.{bit, ifSet, put}
 use Rattle.octets.proofs.Laws.{put-not, Puts, put-row}
@@ -58,6 +58,7 @@ number-is-done OutputTooLong e = absurd (omega arith)
 number-is-done (NoRoom n) e = absurd (omega arith)
 number-is-done (Unbuilt r) e = absurd (omega arith)
 number-is-done NoSequenceNumber e = absurd (omega arith)
+number-is-done ZeroLength e = absurd (omega arith)
 
 -- the width of a field under a flag that was read
 pub width-ifSet : (s : List ℕ) (k w : ℕ) (f : Bool) (u : ℕ) → f ≡ bit k (getD s 0 0) → u ≡ ifSet f w → u ≡ ifSet (bit k (getD s 0 0)) w

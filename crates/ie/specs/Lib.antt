@@ -1,0 +1,3 @@
+pub mod Ie
+pub mod Laws
+pub mod Steps
