@@ -27,7 +27,7 @@ fn bit_of(key: usize) -> u32 {
 }
 
 impl Fields {
-    const NONE: Fields = Fields {
+    pub(crate) const NONE: Fields = Fields {
         is_good: true,
         keys: 0,
     };
@@ -37,7 +37,7 @@ impl Fields {
     }
 
     // A line has a key once at most.
-    fn with(self, key: usize, is_good: bool) -> Fields {
+    pub(crate) fn with(self, key: usize, is_good: bool) -> Fields {
         Fields {
             is_good: both(self.is_good, both(is_good, !self.has(key))),
             keys: self.keys | bit_of(key),

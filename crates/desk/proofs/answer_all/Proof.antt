@@ -7,16 +7,16 @@ use Rattle.desk.proofs.answer_all.Statement.{statement}
 use Rattle.desk.proofs.answer_all.Tie as tie
 
 abbrev Inv-loop : tie.InvT-loop
-Inv-loop input₀ payload₀ output₀ stream₀ turns₀ input payload output stream turns = (length input ≡ length input₀) × ((length payload ≡ length payload₀) × (length output ≡ length output₀))
+Inv-loop input₀ payload₀ table₀ output₀ stream₀ turns₀ input payload table output stream turns = (length input ≡ length input₀) × ((length payload ≡ length payload₀) × ((length table ≡ length table₀) × (length output ≡ length output₀)))
 
 abbrev μ-loop : tie.MeasureT-loop
-μ-loop input₀ payload₀ output₀ stream₀ turns₀ input payload output stream turns = turns
+μ-loop input₀ payload₀ table₀ output₀ stream₀ turns₀ input payload table output stream turns = turns
 
 pub answer-all-spec : {M : Type 1} → statement M
 answer-all-spec =
     tie.close
     (tie.spec
-    Inv-loop μ-loop (λ c. search needs) (λ c. search needs) (λ c. search needs) (λ c κs. search needs)
+    Inv-loop μ-loop (λ c. search needs) (λ c. search needs) (λ c. search needs) (λ c κs. search needs) (λ c. search needs)
     (λ c. search needs) (λ c. search needs) (λ c. search needs) (λ c. search needs) (λ c κs. search needs)
     (λ c κs. search needs) (λ c κs. search needs) (λ c. search needs) (λ c. search needs) (λ c. search needs)
-    (λ c. search needs) (λ c. search needs) (λ c. search needs) (λ c. search needs) (λ c. search needs))
+    (λ c. search needs) (λ c. search needs) (λ c. search needs) (λ c. search needs) (λ c. search needs) (λ c. search needs))
