@@ -5,13 +5,15 @@
 //! be counted up, then random ones.
 //!
 //!   case    payload lines of at most 4,096 digit pairs
-//!   full    payload lines of at most 65,600 digit pairs; of D pairs of numbers
+//!   full    payload lines of at most 65,600 digit pairs; of D pairs of numbers, of B bodies with words before them
 //!   build   record lines
 //!   all     every payload of at most three bytes, so of T every text of at most three
 //!   texts   of N and P: every text of at most three bytes, as a name, and as a flow description before a URL
 //!
 //! --open leaves out the byte that ends the last line. --list makes a short list of small lines, to keep.
 
+#[path = "gen/bodies.rs"]
+mod bodies;
 #[path = "gen/distances.rs"]
 mod distances;
 #[path = "gen/texts.rs"]
@@ -1130,6 +1132,7 @@ enum Source<'a> {
     Payloads(Payloads<'a>),
     Records(Records<'a>),
     Distances,
+    Bodies(bodies::Bodies),
     Short(u8),
     Texts(u8),
 }
@@ -1172,6 +1175,11 @@ impl<'a> Sequence<'a> {
         Sequence { seed, fixed: distances::fixed_lines(short), counted: distances::counted(), source: Source::Distances }
     }
 
+    fn bodies(seed: u64, short: bool) -> Self {
+        let b = bodies::Bodies::new(short);
+        Sequence { seed, fixed: b.fixed_lines(), counted: b.counted(), source: Source::Bodies(b) }
+    }
+
     fn short_payloads(letter: u8, seed: u64) -> Self {
         Sequence { seed, fixed: Vec::new(), counted: SHORT_PAYLOADS as usize, source: Source::Short(letter) }
     }
@@ -1198,6 +1206,8 @@ impl<'a> Sequence<'a> {
             (Source::Records(p), false) => p.random_line(&mut r),
             (Source::Distances, true) => distances::counted_line(n),
             (Source::Distances, false) => distances::random_line(&mut r),
+            (Source::Bodies(b), true) => b.counted_line(n, &mut r),
+            (Source::Bodies(b), false) => b.random_line(&mut r),
             (Source::Short(letter), true) => line_of(&mut Random(0), *letter, &short_payload(n as u64)),
             (Source::Texts(letter), true) => {
                 line_of(&mut Random(0), *letter, &payload_of_text(*letter, &short_payload(n as u64)))
@@ -1250,7 +1260,8 @@ fn main() {
     }
     let kind = KINDS.iter().find(|k| letter.as_bytes() == [k.letter]);
     let sequence = match (kind, form.as_str()) {
-        (None, _) if letter != "D" => stop(&format!("no kind {letter} yet")),
+        (None, _) if !["B", "D"].contains(&letter.as_str()) => stop(&format!("no kind {letter} yet")),
+        (None, "full") if letter == "B" => Sequence::bodies(seed, list),
         (None, "full") => Sequence::distances(seed, list),
         (Some(kind), "case") => Sequence::payloads(kind, 4_096, seed, list),
         (Some(kind), "full") => Sequence::payloads(kind, PAIRS, seed, list),

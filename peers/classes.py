@@ -2,7 +2,8 @@
 
 A class is a function. It is given a Case, whose payload is empty for ALL-ZERO and H-EMPTY alone, and returns the names of
 the differences that it accounts for. It must check by the payload's bytes that they are of the shape it says. A difference
-that no class takes makes peers/compare fail. The payload of a message header is a whole datagram.
+that no class takes makes peers/compare fail. The payload of a message header is a whole datagram, that of a body the whole
+message.
 """
 
 CLASSES = []
@@ -14,8 +15,8 @@ class Class:
 
 
 def differs(name, kinds, here, there, standard):
-    """Names a class: what we do (which is what document 01 says, of headers request K1), what the peer does, and who is
-    right by the standard."""
+    """Names a class: what we do (which is what document 01 says, of headers request K1, of bodies request K3), what the peer
+    does, and who is right by the standard."""
 
     def add(check):
         CLASSES.append(Class(name, kinds, check, (here, there, standard)))
@@ -677,9 +678,232 @@ def h_default(c):
         return {"verdict"}
 
 
+# ---------------------------------------------------------------- message bodies
+
+NO_ENTERPRISE = 65536
+MAY_BE_EMPTY = (22, 41, 159)
+
+
+def number_at(data, at):
+    return int.from_bytes(data[at:at + 2], "big")
+
+
+def row_at(body, at):
+    """The row of the IE at a place, by its bytes, and where it ends by its length."""
+    kind, length = number_at(body, at), number_at(body, at + 2)
+    if kind >> 15:
+        return (kind, number_at(body, at + 4), at + 6, length - 2), at + 4 + length
+    return (kind, NO_ENTERPRISE, at + 4, length), at + 4 + length
+
+
+def plain_rows(body):
+    """The rows of a body of whole IEs, None of another."""
+    rows, at = [], 0
+    while at < len(body):
+        row, end = row_at(body, at)
+        if row[3] < 0 or len(body) < max(row[2], end):
+            return None
+        rows.append(row)
+        at = end
+    return rows
+
+
+def needed(kind, payload):
+    """How many bytes the fields take of such IEs as come with a payload that is too short or too long for them."""
+    first = payload[0] if payload else 0
+    if kind == 21:
+        return 1 + 4 + 4 * (first & 1) + 16 * (first >> 1 & 1) if not first & 4 else 1 + (first >> 3 & 1)
+    if kind == 57:
+        return 9 + 4 * (first >> 1 & 1) + 16 * (first & 1)
+    if kind == 60:
+        return {0: 5, 1: 17}.get(first & 15, 2)
+    return {19: 1, 40: 2, 52: 4, 96: 4, 104: 4, 108: 4}.get(kind, 0)
+
+
+class Ies:
+    """A body as tshark walks it: the rows that it shows, the places of the IEs that it says are to be removed, and what
+    stops it if something does. `empty` are the places of a vendor's empty IEs that it takes so too."""
+
+    def __init__(self, body, empty=()):
+        self.rows, self.removed, self.fault, self.at = [], [], None, 0
+        while self.at < len(body) and not self.fault:
+            self.ie(body, empty)
+
+    def ie(self, body, empty):
+        row, end = row_at(body, self.at)
+        if len(body) < max(row[2], end):
+            self.fault = "cut"
+            return
+        self.rows.append(row)
+        if end == self.at + 4 or row[2] == end and row[2] in empty:
+            self.removed.append(row[2])
+        else:
+            self.fault = self.inside(row, body[row[2]:end])
+        self.at = end if not self.fault else self.at
+
+    def inside(self, row, payload):
+        if row[1] != NO_ENTERPRISE:
+            return {-1: "one", 0: "empty"}.get(row[3])
+        if len(payload) < needed(row[0], payload) or row[0] in (1, 3) and Ies(payload).fault:
+            return "inside"
+
+
+def body_walked(c):
+    """The walk, where tshark says what the walk does."""
+    if c.peer == "tshark":
+        said = [int(p) for p in c.notes.get("remove", "").split(",") if p]
+        w = Ies(c.body, said)
+        return w if (c.theirs.rows, c.theirs.verdict == "malformed", said) == (w.rows, bool(w.fault), w.removed) else None
+
+
+def guilty(c):
+    """The type and length of the IE that is refused here, as far as they are there."""
+    head = c.body[c.ours.place:c.ours.place + 4]
+    return (number_at(head, 0), number_at(head, 2)) if c.ours.number and len(head) == 4 else (None, None)
+
+
+class Taken:
+    """The last row of scapy's where that IE took other bytes than its length says: its start, type, length and payload by the
+    bytes, and how many scapy took. `plain` is that all rows are as their bytes say."""
+
+    def __init__(self, c):
+        place, self.count = [int(n) for n in c.notes["taken"].split(":")]
+        *before, last = c.theirs.rows
+        self.start = before[-1][2] + before[-1][3] if before else 0
+        row, self.end = row_at(c.body, self.start)
+        self.kind, self.length, self.payload = row[0], self.end - self.start - 4, c.body[place:self.end]
+        unread = {None} if len(c.body) < place else set()
+        alike = all(there in unread | {here} for here, there in zip(row, last))
+        self.plain = alike and last[2] == place and before == plain_rows(c.body[:self.start])
+
+
+def taken(c):
+    t = Taken(c) if c.peer == "scapy" and "taken" in c.notes else None
+    return t if t and t.plain else None
+
+
+BODY = {"verdict", "rows", "note remove", "note taken"}
+
+
+@differs("B-ZERO", "M", "refusal 11: a length of zero, and the type isn't 22, 41 or 159",
+         "tshark: the IE is to be removed, and those behind it are read; scapy: reads the IE, its fields from the bytes behind it "
+         "if there are any, and from there on other IEs",
+         "tshark: an IE of length 0 is one to be removed (5.6.3, quoted). That it is refused is the Rust's, and K3 asks for it")
+def b_zero(c):
+    kind, length = guilty(c)
+    if c.ours.number != 11 or length != 0 or kind >> 15:
+        return None
+    t = taken(c)
+    if body_walked(c) or t and t.start == c.ours.place and t.count > 0:
+        return BODY
+    if c.peer == "scapy" and not t and c.theirs.rows == plain_rows(c.body) and c.theirs.verdict == "read":
+        return {"verdict", "rows"}
+
+
+@differs("B-ZERO-LISTED", "M", "read, with an empty payload: types 22, 41 and 159",
+         "tshark: the same, with the note that the IE is to be removed; scapy: a Forwarding Policy (41) takes a byte from the IE "
+         "behind it, and from there on other IEs are read",
+         "here and tshark: such an IE is one to be removed (5.6.3, quoted)")
+def b_zero_listed(c):
+    w, t = body_walked(c), taken(c)
+    if w and any(number_at(c.body, place - 4) in MAY_BE_EMPTY for place in w.removed):
+        return {"note remove"}
+    if t and (t.kind, t.length, t.count) == (41, 0, 1):
+        return BODY
+
+
+def from_the_end(c):
+    """scapy takes a vendor's length, less 2, for one that counts from the body's end."""
+    t = taken(c)
+    return t and t.start == c.ours.place and t.count == max(len(c.body) - t.start - 6 + t.length - 2, 0)
+
+
+@differs("B-VENDOR-ZERO", "M", "refusal 11, as of every type that isn't listed",
+         "tshark: to be removed; it shows the next two bytes as the enterprise number, and reads the next IE from these bytes on; "
+         "scapy: takes the length, less 2, for one that counts from the end, and reads the last two bytes as an IE",
+         "here in that it is no whole IE (from memory): the enterprise number is counted in the length")
+def b_vendor_zero(c):
+    kind, length = guilty(c)
+    if c.ours.number != 11 or length != 0 or not kind >> 15:
+        return None
+    if body_walked(c) or from_the_end(c):
+        return BODY
+    if c.peer == "scapy" and c.theirs.rows == c.ours.rows + [(kind, None, c.ours.place + 6, -2)] and len(c.body) == c.ours.place + 4:
+        return {"verdict", "rows"}
+
+
+@differs("B-VENDOR-ONE", "M", "refusal 1: a vendor's length under 2 (expected 2, actual 1)",
+         "tshark: the IE with its enterprise number, then malformed; scapy: takes the length, less 2, for one that counts from "
+         "the end, and reads the last byte as an IE",
+         "here and tshark, which refuse it: the enterprise number is counted in the length (from memory)")
+def b_vendor_one(c):
+    kind, length = guilty(c)
+    if c.ours.number != 1 or length != 1 or not kind >> 15 or len(c.body) < c.ours.place + 6:
+        return None
+    w = body_walked(c)
+    if w and w.fault == "one":
+        return {"rows"}
+    if from_the_end(c):
+        return BODY
+
+
+@differs("B-VENDOR-EMPTY", "M", "read, with an empty payload: the length is 2, and no more is asked for",
+         "tshark: the IE with its enterprise number, then malformed, and no IE behind it; with a vendor that it knows (18681) "
+         "the note that the IE is to be removed, and it reads on",
+         "here (from memory): nothing is said against a vendor's IE without a value. scapy reads it")
+def b_vendor_empty(c):
+    w = body_walked(c)
+    if w and w.fault == "empty":
+        return {"verdict", "rows"}
+    if w and any(number_at(c.body, place - 6) >> 15 and number_at(c.body, place - 4) == 2 for place in w.removed):
+        return {"note remove"}
+
+
+@differs("B-INSIDE", "M", "read: no payload is looked into",
+         "tshark: malformed, where a payload is shorter than its fields, and no IE behind it is shown; scapy: takes the missing "
+         "bytes from the IE behind it and reads on from there, or fails",
+         "all: the IE stands where it stands, and its payload is wrong. Who reads the payload says so")
+def b_inside(c):
+    w, t = body_walked(c), taken(c)
+    if w and w.fault == "inside":
+        return {"verdict", "rows"}
+    if t and t.payload and t.length == len(t.payload) < needed(t.kind, t.payload) and t.count > t.length:
+        return BODY
+    if c.peer == "scapy" and not t and c.theirs.verdict == "malformed":
+        return {"verdict", "rows"} if short_next(c) else None
+
+
+def short_next(c):
+    """scapy's rows are ours up to an IE whose payload is too short."""
+    n = len(c.theirs.rows)
+    if c.theirs.rows != c.ours.rows[:n] or n == len(c.ours.rows):
+        return False
+    kind, _, place, length = c.ours.rows[n]
+    return length < needed(kind, c.body[place:place + length])
+
+
+@differs("B-LONGER", "M", "read: the length alone says where the next IE begins",
+         "scapy: Cause, Offending IE, Sequence Number and UR-SEQN end behind the field that it knows, and the rest of the "
+         "payload is read as IEs",
+         "here and tshark (from memory): the length says where an IE ends, and later fields may follow those known")
+def b_longer(c):
+    t = taken(c)
+    if t and t.kind in (19, 40, 52, 104) and t.length == len(t.payload) > t.count == needed(t.kind, t.payload):
+        return BODY
+
+
+@differs("B-CUT", "M", "refusal 1: the body ends inside an IE",
+         "scapy 2.5.0: where it ends between two fields or in a text, what is there",
+         "here and tshark: the IE isn't whole")
+def b_cut(c):
+    t = taken(c)
+    if t and c.ours.number == 1 and t.start == c.ours.place and len(c.body) < max(t.end, t.start + 4):
+        return BODY
+
+
 # ---------------------------------------------------------------- where all are of one mind
 
-# A payload or header, the peers that read it as we do, and what is worth knowing about it.
+# A payload, header or message, the peers that read it as we do, and what is worth knowing about it.
 AGREED = [
     ("U 00", "tshark scapy", "no flag at all is accepted", ""),
     ("U 28C0", "tshark", "IPv6D with CHV6 and no V6 is accepted, with its byte", "ties IPv6D to V6 (from memory)"),

@@ -265,6 +265,108 @@ fn pfd_contents(random: &mut Random) -> Vec<Class> {
     classes
 }
 
+/// The most bytes of a message body, and the most IEs of one here.
+const BODY: usize = 65535;
+const IES: usize = 16000;
+
+/// An IE: type and length, each of two bytes, then bytes of any value.
+fn ie(random: &mut Random, raw_type: u16, length: usize) -> Vec<u8> {
+    let mut ie = [raw_type.to_be_bytes(), (length as u16).to_be_bytes()].concat();
+    ie.resize_with(4 + length, || random.byte());
+    ie
+}
+
+/// A type that is no vendor's: the Rust has names for nearly all of these.
+fn any_type(random: &mut Random) -> u16 {
+    1 + random.below(300) as u16
+}
+
+/// A vendor's IE: the first two bytes of its value are the enterprise number.
+fn vendor_ie(random: &mut Random, length: usize) -> Vec<u8> {
+    let raw_type = 0x8000 | random.next() as u16;
+    ie(random, raw_type, 2 + length)
+}
+
+/// Types and lengths of the IEs in a session establishment request with two PDRs and two FARs. Larger bodies repeat them.
+const SESSION: [(u16, usize); 10] = [
+    (60, 5),
+    (57, 13),
+    (1, 61),
+    (1, 44),
+    (3, 33),
+    (3, 14),
+    (7, 23),
+    (6, 27),
+    (113, 1),
+    (159, 0),
+];
+
+fn session_ie(random: &mut Random, place: usize) -> Vec<u8> {
+    let (raw_type, length) = SESSION[place % SESSION.len()];
+    ie(random, raw_type, length)
+}
+
+/// An IE by its place in the body.
+type MakeIe<'a> = &'a dyn Fn(&mut Random, usize) -> Vec<u8>;
+
+fn body(random: &mut Random, count: usize, make: MakeIe) -> Vec<u8> {
+    (0..count).flat_map(|place| make(random, place)).collect()
+}
+
+/// How many IEs fit into a body.
+fn fitting(make: MakeIe) -> usize {
+    let (mut random, mut length, mut count) = (Random(0), 0, 0);
+    while count < IES {
+        length += make(&mut random, count).len();
+        if length > BODY {
+            break;
+        }
+        count += 1;
+    }
+    count
+}
+
+/// A class for each size of a body; its name ends with the number of IEs.
+fn bodies(random: &mut Random, name: &str, make: MakeIe) -> Vec<Class> {
+    let most = fitting(make);
+    let mut counts = vec![1, 10, 100, 1000, most];
+    counts.retain(|count| *count <= most);
+    counts.dedup();
+    counts.iter().map(|count| class(&format!("{name}_{count}"), true, || body(random, *count, make))).collect()
+}
+
+fn ies(random: &mut Random) -> Vec<Class> {
+    let with = |length: usize| move |random: &mut Random, _: usize| {
+        let raw_type = any_type(random);
+        ie(random, raw_type, length)
+    };
+    let named: [(&str, MakeIe); 9] = [
+        ("empty_22", &|random, _| ie(random, 22, 0)),
+        ("empty_159", &|random, _| ie(random, 159, 0)),
+        ("payload_1", &with(1)),
+        ("payload_4", &with(4)),
+        ("payload_16", &with(16)),
+        ("vendor_4", &|random, _| vendor_ie(random, 4)),
+        ("session", &session_ie),
+        ("grouped_1000", &|random, _| ie(random, 1, 1000)),
+        ("grouped_65531", &|random, _| ie(random, 1, 65531)),
+    ];
+    let mut classes: Vec<Class> = named.iter().flat_map(|(name, make)| bodies(random, name, *make)).collect();
+    for count in LISTS {
+        classes.push(class(&format!("short_{count}"), false, || {
+            let mut body = body(random, count, &with(4));
+            body.truncate(body.len() - 1 - random.below(7));
+            body
+        }));
+    }
+    for count in [1, 1000] {
+        classes.push(class(&format!("zero_{count}"), false, || {
+            [ie(random, 1, 0), body(random, count - 1, &with(4))].concat()
+        }));
+    }
+    classes
+}
+
 /// The classes of the kinds, by name.
 pub fn of_kind(kind: &str) -> Vec<Class> {
     let mut random = Random(29244);
@@ -276,6 +378,7 @@ pub fn of_kind(kind: &str) -> Vec<Class> {
         "outer_header_creation" => outer_header_creation(&mut random),
         "pfd_contents" => pfd_contents(&mut random),
         "header" => header(&mut random),
+        "ies" => ies(&mut random),
         _ => names(&mut random),
     }
 }

@@ -29,14 +29,17 @@ pub fn unhex(text: &[u8]) -> Option<Vec<u8>> {
     text.chunks(2).map(|c| Some(nibble(c[0])? << 4 | nibble(c[1])?)).collect()
 }
 
-/// Letter and payload of a line: the letter, one space, then `-` or 1 to `max_pairs` digit pairs.
+/// Letter and payload of a line: the letter, one space, then the payload's digits.
 pub fn payload_of(line: &[u8], max_pairs: usize) -> Option<(u8, Vec<u8>)> {
     let [letter, b' ', digits @ ..] = line else { return None };
-    if digits == b"-" {
-        return Some((*letter, Vec::new()));
+    Some((*letter, bytes_of(digits, max_pairs)?))
+}
+
+/// The bytes of `-` or of 1 to `max_pairs` digit pairs.
+pub fn bytes_of(digits: &[u8], max_pairs: usize) -> Option<Vec<u8>> {
+    match digits {
+        b"-" => Some(Vec::new()),
+        _ if digits.is_empty() || digits.len() > 2 * max_pairs => None,
+        _ => unhex(digits),
     }
-    if digits.is_empty() || digits.len() > 2 * max_pairs {
-        return None;
-    }
-    Some((*letter, unhex(digits)?))
 }

@@ -37,7 +37,8 @@ impl Options {
 /// The answer of any line that is not of the asked form.
 const OTHER: &str = "? 0 -";
 
-/// What the program `probe` reads: its longest payload. The programs `compose` and `desk` read lines that are no longer.
+/// What the program `probe` reads: its longest payload. The programs `compose` and `desk` read lines that are no longer,
+/// but for those of a body.
 const PROBE_PAIRS: usize = 65_600;
 const LONGEST_LINE: usize = 2 + 2 * PROBE_PAIRS;
 
@@ -52,10 +53,12 @@ fn compose_line(o: &Options, line: &[u8], out: &mut String) {
     }
 }
 
-/// A line of the program `desk`: a header to be read, or one to be written, of at least one token. The distances that
-/// the program gives too are nothing of the published Rust's.
+/// A line of the program `desk`: a body, a header to be read, or one to be written, of at least one token. The distances
+/// that the program gives too are nothing of the published Rust's.
 fn desk_line(o: &Options, line: &[u8], out: &mut String) {
-    if line.len() > LONGEST_LINE || !line.starts_with(b"H ") {
+    if line.starts_with(b"B ") {
+        ies::desk_answer(o, line, out);
+    } else if line.len() > LONGEST_LINE || !line.starts_with(b"H ") {
         out.push_str(OTHER);
     } else if line::payload_of(line, o.max_pairs).is_some() {
         header::answer(o, line, out);

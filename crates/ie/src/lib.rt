@@ -195,15 +195,15 @@ fn record_at(s: &[u8], at: usize) -> Ie
 fn count(body: &[u8], zero_types: &[u16]) -> Counted
     ensures { λ r. ⌜ r ≡ counted 0 (ies (now («zero_types» .entry)) 0 (now (body .entry))) ⌝ }
 {
-    let mut at = 0;
+    let mut place = 0;
     let mut rows = 0;
-    while at < body.len() {
-        match end_of(&body[at..], zero_types) {
+    while place < body.len() {
+        match end_of(&body[place..], zero_types) {
             Envelope::Whole { end } => {
                 rows += 1;
-                at += end;
+                place += end;
             }
-            Envelope::Refused { answer } => return Counted::Guilty { place: at, answer },
+            Envelope::Refused { answer } => return Counted::Guilty { place, answer },
         }
     }
     Counted::All { rows }
@@ -269,9 +269,9 @@ impl Ie {
         ensures { λ r. ⌜ r ≡ readAll (now («zero_types» .entry)) (now (body .entry)) (length (now (table .entry))) ⌝ }
         ensures { λ r. ⌜ now (table .exit) ≡ tabled (now («zero_types» .entry)) (now (body .entry)) (now (table .entry)) ⌝ }
     {
-        let n = body.len();
-        if 65535 < n {
-            return refused_at(0, Answer::InputTooLong { length: n });
+        let length = body.len();
+        if 65535 < length {
+            return refused_at(0, Answer::InputTooLong { length });
         }
         match count(body, zero_types) {
             Counted::Guilty { place, answer } => refused_at(place, answer),
