@@ -778,7 +778,7 @@ class Taken:
 
 
 def taken(c):
-    t = Taken(c) if c.peer == "scapy" and "taken" in c.notes else None
+    t = Taken(c) if c.peer == "scapy" and "taken" in c.notes and c.theirs.rows else None
     return t if t and t.plain else None
 
 
@@ -791,7 +791,7 @@ BODY = {"verdict", "rows", "note remove", "note taken"}
          "tshark: an IE of length 0 is one to be removed (5.6.3, quoted). That it is refused is the Rust's, and K3 asks for it")
 def b_zero(c):
     kind, length = guilty(c)
-    if c.ours.number != 11 or length != 0 or kind >> 15:
+    if c.ours.number != 11 or length != 0 or kind >> 15 or kind in MAY_BE_EMPTY:
         return None
     t = taken(c)
     if body_walked(c) or t and t.start == c.ours.place and t.count > 0:
@@ -820,22 +820,25 @@ def from_the_end(c):
 
 @differs("B-VENDOR-ZERO", "M", "refusal 11, as of every type that isn't listed",
          "tshark: to be removed; it shows the next two bytes as the enterprise number, and reads the next IE from these bytes on; "
-         "scapy: takes the length, less 2, for one that counts from the end, and reads the last two bytes as an IE",
-         "here in that it is no whole IE (from memory): the enterprise number is counted in the length")
+         "scapy: takes the length, less 2, for one that counts from the end, and reads the last two bytes as an IE; where the "
+         "body ends before the number, reads it without one",
+         "here, as the enterprise number is counted in the length (from memory). That the refusal is 11 is the Rust's, and "
+         "K3 asks for it")
 def b_vendor_zero(c):
     kind, length = guilty(c)
     if c.ours.number != 11 or length != 0 or not kind >> 15:
         return None
+    numberless = [(kind, None, c.ours.place + 6, -2)] if len(c.body) == c.ours.place + 4 else []
     if body_walked(c) or from_the_end(c):
         return BODY
-    if c.peer == "scapy" and c.theirs.rows == c.ours.rows + [(kind, None, c.ours.place + 6, -2)] and len(c.body) == c.ours.place + 4:
+    if c.peer == "scapy" and numberless and c.theirs.rows == c.ours.rows + numberless:
         return {"verdict", "rows"}
 
 
 @differs("B-VENDOR-ONE", "M", "refusal 1: a vendor's length under 2 (expected 2, actual 1)",
          "tshark: the IE with its enterprise number, then malformed; scapy: takes the length, less 2, for one that counts from "
          "the end, and reads the last byte as an IE",
-         "here and tshark, which refuse it: the enterprise number is counted in the length (from memory)")
+         "here and tshark, which refuse it, as above")
 def b_vendor_one(c):
     kind, length = guilty(c)
     if c.ours.number != 1 or length != 1 or not kind >> 15 or len(c.body) < c.ours.place + 6:
@@ -850,7 +853,7 @@ def b_vendor_one(c):
 @differs("B-VENDOR-EMPTY", "M", "read, with an empty payload: the length is 2, and no more is asked for",
          "tshark: the IE with its enterprise number, then malformed, and no IE behind it; with a vendor that it knows (18681) "
          "the note that the IE is to be removed, and it reads on",
-         "here (from memory): nothing is said against a vendor's IE without a value. scapy reads it")
+         "here and scapy: nothing is said against a vendor's IE without a value (from memory)")
 def b_vendor_empty(c):
     w = body_walked(c)
     if w and w.fault == "empty":
@@ -925,4 +928,23 @@ AGREED = [
     ("H 20FF000400000100", "tshark scapy", "type 255 is kept, as every number is; tshark calls it unknown", "leaves it for later versions (from memory)"),
     ("H 2101000C000000000000000100000100", "tshark scapy", "S decides whether an SEID is there, whatever the type: here in a Heartbeat Request", "has S, MP and FO 0 in messages between nodes (quoted)"),
     ("H 2005000500000100", "scapy", "a length that doesn't fit is kept, and compared with nothing", "counts what is behind the first 4 bytes (quoted)"),
+    ("M 2007000400000100", "tshark scapy", "a body without a byte has no IE", ""),
+    ("M 200700090000010001410001FF", "tshark scapy", "a type that nobody knows (321) is a row as any other, by its length",
+     "the same (from memory)"),
+    ("M 2007000B000001008001000300097F", "tshark scapy",
+     "a vendor's IE: the enterprise number (9) is counted in the length, and the payload is what stands behind it",
+     "the same (from memory)"),
+    ("M 2007000C0000010080000004000000FF", "tshark scapy",
+     "the top bit alone makes the type a vendor's; 0 is an enterprise number", ""),
+    ("M 2007000C00000100FFFF0004FFFF0102", "tshark scapy", "type and enterprise number 65535 are as any other", ""),
+    ("M 2007000A000001008002000248F9", "tshark scapy",
+     "a vendor's IE of length 2 has an empty payload; tshark, which knows this vendor, notes that it is to be removed", ""),
+    ("M 200700080000010000160000", "tshark scapy",
+     "a Network Instance of length 0 is read; tshark notes that it is to be removed", "the same (5.6.3, quoted)"),
+    ("M 2007000E0000010000030006006C00020001", "scapy",
+     "a group is one IE, whatever stands inside: here a FAR ID of 2 bytes for one of 4", ""),
+    ("M 2007000A00000100001300010100", "tshark scapy", "refused: a byte behind the last IE", "the same"),
+    ("M 200700090000010000130002FF", "tshark", "refused: a payload cut off", "the same"),
+    ("M 2007000A00000100800100030009", "tshark", "refused: a vendor's payload cut off", "the same"),
+    ("M 200700080000010080010003", "tshark", "refused: a vendor's IE without its number", "the same"),
 ]

@@ -403,6 +403,29 @@ def apn(r):
     return ie(159, labels(r.pick(NAMES)) if r.below(6) else b"")
 
 
+def flow_rules(r, flow, ue, name):
+    """A flow's rules in both directions, from the access with its tunnel to the core and back, and its rates."""
+    up, down, qfi = 2 * flow - 1, 2 * flow, byte(124, flow)
+    number, links = long(109, flow), long(81, 1) + long(109, flow)
+    traffic = sdf_filter(r) if flow > 1 else b""
+    tunnel, peer = ie(21, b"\1" + r.bytes(4) + ipv4(r)), ie(84, b"\1\0" + r.bytes(4) + ipv4(r))
+    from_access = group(2, byte(20, 0), tunnel, ie(22, name), ie(93, b"\2" + ue), traffic, qfi)
+    from_core = group(2, byte(20, 1), ie(22, name), ie(93, b"\6" + ue), traffic)
+    pdrs = group(1, short(56, up), long(29, 255 - flow), from_access, byte(95, 0), long(108, up), links) + \
+        group(1, short(56, down), long(29, 255 - flow), from_core, long(108, down), links)
+    fars = group(3, long(108, up), byte(44, 2), group(4, byte(42, 1), ie(22, name))) + \
+        group(3, long(108, down), byte(44, 2), group(4, byte(42, 0), peer))
+    return pdrs, fars, group(7, number, byte(25, 0), rates(r, 26), qfi)
+
+
+def session(r, size):
+    """A Session Establishment Request whose rules belong together, as most are."""
+    ue, name = ipv4(r), labels(r.pick(NAMES))
+    pdrs, fars, qers = zip(*[flow_rules(r, flow, ue, name) for flow in range(1, 1 + size)])
+    usage = group(6, long(81, 1), byte(62, 2), ie(37, b"\2\0"), volumes(r, 31))
+    return node_id(r) + f_seid(r) + b"".join(pdrs + fars) + usage + b"".join(qers) + byte(113, 1) + maybe(r, 3, ie(159, name))
+
+
 def establishment_request(r, size):
     makers = [create_pdr, create_far, lambda r: urr(r, 6), lambda r: qer(r, 7)]
     rules = b"".join(create_pdr(r) + create_far(r) if i == 0 else r.pick(makers)(r) for i in range(size))
@@ -456,9 +479,10 @@ def report_response(r, size):
 KINDS = [(1, heartbeat_request, 12, 1), (2, heartbeat_response, 10, 1), (3, pfd_management_request, 40, 12),
          (4, short_response, 12, 1), (5, setup_request, 36, 8), (6, setup_response, 36, 8), (7, update_request, 30, 6),
          (8, node_response, 16, 1), (9, node_alone, 10, 1), (10, node_response, 12, 1), (12, node_report, 12, 1),
-         (13, node_response, 8, 1), (14, node_set, 8, 1), (15, node_response, 8, 1), (50, establishment_request, 150, 16),
-         (51, establishment_response, 60, 10), (52, modification_request, 110, 16), (53, modification_response, 50, 6),
-         (54, nothing, 4, 1), (55, deletion_response, 36, 6), (56, report_request, 50, 6), (57, report_response, 20, 1)]
+         (13, node_response, 8, 1), (14, node_set, 8, 1), (15, node_response, 8, 1), (50, session, 60, 4),
+         (50, establishment_request, 110, 16), (51, establishment_response, 60, 10), (52, modification_request, 110, 16),
+         (53, modification_response, 50, 6), (54, nothing, 8, 1), (55, deletion_response, 36, 6), (56, report_request, 50, 6),
+         (57, report_response, 20, 1)]
 # The large ones, of up to some 60 IEs.
 LARGE = [(3, pfd_management_request, [16, 30]), (50, establishment_request, [20, 34, 48, 56]),
          (51, establishment_response, [25, 57]), (52, modification_request, [22, 36, 50, 60]),

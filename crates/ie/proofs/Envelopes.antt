@@ -13,7 +13,7 @@ use Rattle.answer.specs.declared.Answer.the-variants.{Done, Short, InputTooLong
 use Rattle.octets.specs.Octets.{pick, ifSet, field, bigEndian}
 use Rattle.octets.proofs.Laws.{number-field, number-below}
 use Rattle.ie.specs.Ie.{pairAt, typeOf, lengthOf, isVendor, extra, listed, envelope, recordOf, refused, found, read}
-use Rattle.ie.specs.Steps.{IsWhole}
+use Rattle.ie.specs.Steps.{IsWhole, payloadTest, vendorTests}
 use Rattle.ie.specs.declared.Ie.{Ie}
 use Rattle.ie.specs.declared.IeRead.{IeRead}
 use Rattle.ie.specs.declared.Envelope.{Envelope}
@@ -54,27 +54,34 @@ module _ (zs s : List ℕ) where
     unfolding envelope
     zero-length h = rw (le-leb _ _ head, may, not-true m h)
 
-    module _ (ok : not m ≡ false) {k : ℕ} (d : k ≡ extra t) where
-      k-is : extra (typeOf s) ≡ k
-      k-is = sym (d ∙ ap extra a)
+    module _ (ok : not m ≡ false) {v : Bool} (d : v ≡ isVendor t) where
+      v-is : isVendor (typeOf s) ≡ v
+      v-is = sym (d ∙ ap isVendor a)
 
-      pub no-vendor : {r : Envelope} → r ≡ Refused (Short 0 (4 + k) (length s)) → length s < 4 + k → r ≡ envelope zs s
-      unfolding envelope
-      no-vendor q h = rw (le-leb _ _ head, may, not-false m ok, k-is, lt-leb _ _ h) q
+      pub by-vendor : v ≡ true → {r : Envelope} → r ≡ vendorTests (length s) n → r ≡ envelope zs s
+      unfolding envelope ifSet
+      by-vendor e q = rw (le-leb _ _ head, may, not-false m ok, v-is, e, ← b) q
 
-      module _ (head2 : 4 + k ≤ length s) where
-        pub too-small : {r : Envelope} → r ≡ Refused (Short 0 k n) → n < k → r ≡ envelope zs s
-        unfolding envelope
-        too-small q h = rw (le-leb _ _ head, may, not-false m ok, k-is, le-leb _ _ head2, ← b, lt-leb _ _ h) q
+      pub by-other : v ≡ false → {r : Envelope} → r ≡ payloadTest (length s) n → r ≡ envelope zs s
+      unfolding envelope ifSet
+      by-other e q = rw (le-leb _ _ head, may, not-false m ok, v-is, e, le-leb _ _ head, ← b, le-leb 0 n (omega arith)) q
 
-        module _ (big : k ≤ n) where
-          pub cut : {r : Envelope} → r ≡ Refused (Short 0 (4 + n) (length s)) → length s < 4 + n → r ≡ envelope zs s
-          unfolding envelope
-          cut q h = rw (le-leb _ _ head, may, not-false m ok, k-is, le-leb _ _ head2, ← b, le-leb _ _ big, lt-leb _ _ h) q
+-- the last tests
+module _ (n m : ℕ) where
+  pub cut : {r : Envelope} → r ≡ Refused (Short 0 (4 + m) n) → n < 4 + m → r ≡ payloadTest n m
+  cut q h = rw (lt-leb _ _ h) q
 
-          pub whole : 4 + n ≤ length s → Whole (4 + n) ≡ envelope zs s
-          unfolding envelope
-          whole h = rw (le-leb _ _ head, may, not-false m ok, k-is, le-leb _ _ head2, ← b, le-leb _ _ big, le-leb _ _ h)
+  pub whole : 4 + m ≤ n → Whole (4 + m) ≡ payloadTest n m
+  whole h = rw (le-leb _ _ h)
+
+  pub no-vendor : {r : Envelope} → r ≡ Refused (Short 0 6 n) → n < 6 → r ≡ vendorTests n m
+  no-vendor q h = rw (lt-leb _ _ h) q
+
+  pub too-small : {r : Envelope} → r ≡ Refused (Short 0 2 m) → 6 ≤ n → m < 2 → r ≡ vendorTests n m
+  too-small q k h = rw (le-leb _ _ k, lt-leb _ _ h) q
+
+  pub vendor-last : {r : Envelope} → r ≡ payloadTest n m → 6 ≤ n → 2 ≤ m → r ≡ vendorTests n m
+  vendor-last q k h = rw (le-leb _ _ k, le-leb _ _ h) q
 
 -- ---- where an IE ends
 
@@ -140,29 +147,25 @@ module _ (s : List ℕ) (at : ℕ) (w : IsWhole (drop at s)) where
   pub head-there : at + 4 ≤ length s
   head-there = omega (arith, w .0, length-drop at s)
 
-  module _ {t k : ℕ} (a : t ≡ pairAt s at) (d : k ≡ extra t) where
-    k-at : extra (typeOf (drop at s)) ≡ k
-    k-at = ap extra (type-drop s at ∙ sym a) ∙ sym d
+  module _ {t n : ℕ} (a : t ≡ pairAt s at) (b : n ≡ pairAt s (at + 2)) {v : Bool} (d : v ≡ isVendor t) where
+    v-at : isVendor (typeOf (drop at s)) ≡ v
+    v-at = ap isVendor (type-drop s at ∙ sym a) ∙ sym d
 
-    pub vendor-there : at + 4 + k ≤ length s
-    vendor-there = omega (arith, w .0, length-drop at s, k-at)
+    module _ (e : v ≡ true) where
+      two-more : extra (typeOf (drop at s)) ≡ 2
+      unfolding ifSet
+      two-more = rw (v-at, e)
 
-    pub counts-it : {n : ℕ} → n ≡ pairAt s (at + 2) → k ≤ n
-    counts-it b = omega (arith, w .1, pair-drop s at 2, k-at, b)
+      pub number-there : at + 4 + 2 ≤ length s
+      number-there = omega (arith, w .0, length-drop at s, two-more)
 
-    pub record-is : {n e : ℕ} → n ≡ pairAt s (at + 2) → e ≡ pick (isVendor t) (pairAt s (at + 4)) 65536
-        → record { «raw_type» = t; «enterprise_id» = e; place = 4 + k; len = n - k } ≡ recordOf (drop at s)
-    unfolding recordOf
-    record-is b q = rw (k-at, type-drop s at, pair-drop s at 2, pair-drop s at 4, ← a, ← b, ← q)
+      pub counts-it : 2 ≤ n
+      counts-it = omega (arith, w .1, pair-drop s at 2, two-more, b)
 
--- a vendor's number, and none
-module _ (t : ℕ) {v : Bool} (e : v ≡ isVendor t) where
-  pub has-number : (at : ℕ) {n : ℕ} → v ≡ true → at + extra t ≤ n → at + 2 ≤ n
-  unfolding ifSet
-  has-number at {n} q h = let z : isVendor t ≡ true = sym e ∙ q in rw z at h
+      pub vendor-record : {x : ℕ} → x ≡ pairAt s (at + 4) → record { «raw_type» = t; «enterprise_id» = x; place = 6; len = n - 2 } ≡ recordOf (drop at s)
+      unfolding recordOf ifSet
+      vendor-record q = rw (v-at, e, type-drop s at, pair-drop s at 2, pair-drop s at 4, ← a, ← b, ← q)
 
-  pub of-vendor : {x y : ℕ} → v ≡ true → x ≡ y → x ≡ pick (isVendor t) y 65536
-  of-vendor q p = let z : isVendor t ≡ true = sym e ∙ q in rw z p
-
-  pub of-none : (y : ℕ) → v ≡ false → 65536 ≡ pick (isVendor t) y 65536
-  of-none y q = let z : isVendor t ≡ false = sym e ∙ q in rw z
+    pub other-record : v ≡ false → record { «raw_type» = t; «enterprise_id» = 65536; place = 4; len = n } ≡ recordOf (drop at s)
+    unfolding recordOf ifSet
+    other-record e = let z : n - 0 ≡ n = omega arith in rw (v-at, e, type-drop s at, pair-drop s at 2, ← a, ← b, z)

@@ -5,9 +5,8 @@ ghost use mathlib.Core.Bool.{true, not, _||_};
 ghost use Prim.Native.Nat.{_+_, _≤_, _<_};
 ghost use lib.Dec.{eqb};
 ghost use lib.ListN.{length, drop};
-ghost use Rattle.octets.specs.Octets.{pick};
-ghost use Rattle.ie.specs.Ie.{pairAt, isVendor, extra, listed, recordOf, refused, read, envelope, rowOf, ies, ours, refusedAt, readAll, filled, tabled};
-ghost use Rattle.ie.specs.Steps.{IsWhole, short, counted, fits};
+ghost use Rattle.ie.specs.Ie.{pairAt, isVendor, listed, recordOf, refused, read, envelope, rowOf, ies, ours, refusedAt, readAll, filled, tabled};
+ghost use Rattle.ie.specs.Steps.{IsWhole, short, payloadTest, vendorTests, counted, fits};
 
 // An IE: its raw type and enterprise number, and the place, from the IE's start on, and length of its payload.
 pub struct Ie {
@@ -102,25 +101,6 @@ fn is_vendor(raw_type: u16) -> bool
     raw_type / 32768 % 2 == 1
 }
 
-// How many bytes of the length are the enterprise number.
-fn extra(raw_type: u16) -> usize
-    ensures { λ r. ⌜ r ≡ extra «raw_type» ⌝ }
-    ensures { λ r. ⌜ r ≤ 2 ⌝ }
-{
-    octets::if_set(is_vendor(raw_type), 2)
-}
-
-// The enterprise number of a type, from the place where it stands if it is a vendor's.
-fn enterprise_id(s: &[u8], at: usize, raw_type: u16) -> u32
-    requires { ⌜ at + extra «raw_type» ≤ length (now s) ⌝ }
-    ensures { λ r. ⌜ r ≡ pick (isVendor «raw_type») (pairAt (now (s .entry)) at) 65536 ⌝ }
-{
-    if is_vendor(raw_type) {
-        return pair(s, at) as u32;
-    }
-    Ie::NO_ENTERPRISE
-}
-
 // Whether a type is in a list.
 fn is_listed(types: &[u16], raw_type: u16) -> bool
     ensures { λ r. ⌜ r ≡ listed «raw_type» (now (types .entry)) ⌝ }
@@ -145,7 +125,34 @@ fn may_have(raw_type: u16, length: usize, zero_types: &[u16]) -> bool
     is_listed(zero_types, raw_type)
 }
 
-// The tests of the IE at the front of a slice, in their order.
+// The last test of so many bytes with an IE at their front: its payload is there.
+fn payload_end(size: usize, length: usize) -> Envelope
+    requires { ⌜ length < 65536 ⌝ }
+    ensures { λ r. ⌜ r ≡ payloadTest size length ⌝ }
+{
+    let end = 4 + length;
+    if size < end {
+        return short(end, size);
+    }
+    Envelope::Whole { end }
+}
+
+// The tests of a vendor's IE before that one: the enterprise number is there, and the length counts it.
+fn vendor_end(size: usize, length: usize) -> Envelope
+    requires { ⌜ length < 65536 ⌝ }
+    ensures { λ r. ⌜ r ≡ vendorTests size length ⌝ }
+{
+    if size < 6 {
+        return short(6, size);
+    }
+    // The two lengths that don't count from the IE's start: the Rust says them so.
+    if length < 2 {
+        return short(2, length);
+    }
+    payload_end(size, length)
+}
+
+// All tests of the IE at the front of a slice, in their order.
 fn end_of(s: &[u8], zero_types: &[u16]) -> Envelope
     ensures { λ r. ⌜ r ≡ envelope (now («zero_types» .entry)) (now (s .entry)) ⌝ }
 {
@@ -160,20 +167,10 @@ fn end_of(s: &[u8], zero_types: &[u16]) -> Envelope
             answer: Answer::ZeroLength,
         };
     }
-    let skipped = extra(raw_type);
-    let place = 4 + skipped;
-    if n < place {
-        return short(place, n);
+    if is_vendor(raw_type) {
+        return vendor_end(n, length);
     }
-    // These two lengths don't count from the IE's start: the Rust says so.
-    if length < skipped {
-        return short(skipped, length);
-    }
-    let end = 4 + length;
-    if n < end {
-        return short(end, n);
-    }
-    Envelope::Whole { end }
+    payload_end(n, length)
 }
 
 // The record of an IE that passed them.
@@ -182,12 +179,20 @@ fn record_at(s: &[u8], at: usize) -> Ie
     ensures { λ r. ⌜ r ≡ recordOf (drop at (now (s .entry))) ⌝ }
 {
     let raw_type = pair(s, at);
-    let skipped = extra(raw_type);
+    let length = pair(s, at + 2) as usize;
+    if is_vendor(raw_type) {
+        return Ie {
+            raw_type,
+            enterprise_id: pair(s, at + 4) as u32,
+            place: 6,
+            len: length - 2,
+        };
+    }
     Ie {
         raw_type,
-        enterprise_id: enterprise_id(s, at + 4, raw_type),
-        place: 4 + skipped,
-        len: pair(s, at + 2) as usize - skipped,
+        enterprise_id: Ie::NO_ENTERPRISE,
+        place: 4,
+        len: length,
     }
 }
 

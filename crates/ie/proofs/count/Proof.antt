@@ -24,7 +24,7 @@ add-rows c =
     let o = c .before .before .before in
     let l = o .before .before .before in
     let x = l .before .before .before .args in
-    let w = passed (x .zero-types .now) (x .body .now) (l .loop .place) (l .loop .rows) (l .loop .inv .2) (o .before .before .loop-test .taken) (o .end-of .ensures) (c .before .end .given .1) in
+    let w = passed (x .zero-types .now) (x .body .now) (l .loop .place) (l .loop .rows) (l .loop .inv .2) (omega (arith, o .before .before .loop-test .taken)) (o .end-of .ensures) (c .before .end .given .1) in
     omega (arith, w, l .loop .inv .1)
 
 add-place : tie.Need-add-place Inv-loop μ-loop
@@ -32,7 +32,7 @@ add-place c =
     let o = c .before .before .before in
     let l = o .before .before .before in
     let x = l .before .before .before .args in
-    let w = passed (x .zero-types .now) (x .body .now) (l .loop .place) (l .loop .rows) (l .loop .inv .2) (o .before .before .loop-test .taken) (o .end-of .ensures) (c .before .end .given .1) in
+    let w = passed (x .zero-types .now) (x .body .now) (l .loop .place) (l .loop .rows) (l .loop .inv .2) (omega (arith, o .before .before .loop-test .taken)) (o .end-of .ensures) (c .before .end .given .1) in
     omega (arith, w)
 
 loop-less : tie.Need-loop-less Inv-loop μ-loop
@@ -40,7 +40,7 @@ loop-less c =
     let o = c .before .before .before in
     let l = o .before .before .before in
     let x = l .before .before .before .args in
-    let w = passed (x .zero-types .now) (x .body .now) (l .loop .place) (l .loop .rows) (l .loop .inv .2) (o .before .before .loop-test .taken) (o .end-of .ensures) (c .before .end .given .1) in
+    let w = passed (x .zero-types .now) (x .body .now) (l .loop .place) (l .loop .rows) (l .loop .inv .2) (omega (arith, o .before .before .loop-test .taken)) (o .end-of .ensures) (c .before .end .given .1) in
     omega (arith, w)
 
 loop-again : tie.Need-loop-again Inv-loop μ-loop
@@ -48,15 +48,15 @@ loop-again c =
     let o = c .before .before .before in
     let l = o .before .before .before in
     let x = l .before .before .before .args in
-    let w = passed (x .zero-types .now) (x .body .now) (l .loop .place) (l .loop .rows) (l .loop .inv .2) (o .before .before .loop-test .taken) (o .end-of .ensures) (c .before .end .given .1) in
-    (omega (arith, w), omega (arith, w, l .loop .inv .1), count-step (x .zero-types .now) (x .body .now) (l .loop .place) (l .loop .rows) (l .loop .inv .2) (o .before .before .loop-test .taken) (o .end-of .ensures) (c .before .end .given .1))
+    let w = passed (x .zero-types .now) (x .body .now) (l .loop .place) (l .loop .rows) (l .loop .inv .2) (omega (arith, o .before .before .loop-test .taken)) (o .end-of .ensures) (c .before .end .given .1) in
+    (omega (arith, w), omega (arith, w, l .loop .inv .1), count-step (x .zero-types .now) (x .body .now) (l .loop .place) (l .loop .rows) (l .loop .inv .2) (omega (arith, o .before .before .loop-test .taken)) (o .end-of .ensures) (c .before .end .given .1))
 
 returns : tie.Need-returns Inv-loop μ-loop
 returns c =
     let o = c .before .before .before in
     let l = o .before .before .before in
     let x = l .before .before .before .args in
-    count-stop (x .zero-types .now) (x .body .now) (l .loop .place) (l .loop .rows) (l .loop .inv .2) (o .before .before .loop-test .taken) (o .end-of .ensures) (c .before .answer .given .1)
+    count-stop (x .zero-types .now) (x .body .now) (l .loop .place) (l .loop .rows) (l .loop .inv .2) (omega (arith, o .before .before .loop-test .taken)) (o .end-of .ensures) (c .before .answer .given .1)
 
 returns-2 : tie.Need-returns-2 Inv-loop μ-loop
 returns-2 c = let l = c .before in count-end _ _ (l .loop .place) (l .loop .rows) (l .loop .inv .2) (c .loop-test .left)
