@@ -783,6 +783,7 @@ def taken(c):
 
 
 BODY = {"verdict", "rows", "note remove", "note taken"}
+ENDING = (19, 40, 52, 104)  # types that end in scapy behind the field that it knows
 
 
 @differs("B-ZERO", "M", "refusal 11: a length of zero, and the type isn't 22, 41 or 159",
@@ -891,7 +892,7 @@ def short_next(c):
          "here and tshark (from memory): the length says where an IE ends, and later fields may follow those known")
 def b_longer(c):
     t = taken(c)
-    if t and t.kind in (19, 40, 52, 104) and t.length == len(t.payload) > t.count == needed(t.kind, t.payload):
+    if t and t.kind in ENDING and t.length == len(t.payload) > t.count == needed(t.kind, t.payload):
         return BODY
 
 
@@ -900,7 +901,10 @@ def b_longer(c):
          "here and tshark: the IE isn't whole")
 def b_cut(c):
     t = taken(c)
-    if t and c.ours.number == 1 and t.start == c.ours.place and len(c.body) < max(t.end, t.start + 4):
+    if not t or c.ours.number != 1 or t.start != c.ours.place or len(c.body) >= max(t.end, t.start + 4):
+        return None
+    left = len(c.body) - c.theirs.rows[-1][2]
+    if t.count == left or t.kind in ENDING and t.count == needed(t.kind, t.payload) < left:
         return BODY
 
 

@@ -76,7 +76,7 @@ FLOWS = [b"permit out ip from any to assigned", b"permit out udp from 198.51.100
          b"permit out tcp from 203.0.113.7 443 to assigned", b"permit out 17 from 2001:db8::/32 to assigned 4000-4100"]
 URLS = [b"http://example.com/", b"https://video.example.net/live", b"http://example.org/a?b=c"]
 RULES = [b"default", b"gold-service", b"block-p2p", b"zero-rated"]
-# Registered enterprise numbers; 18681 is the one whose IEs tshark knows.
+# Enterprise numbers; of these tshark knows IEs of 18681 alone.
 ENTERPRISES = [9, 193, 637, 2011, 10415, 18681, 28458, 65535]
 
 

@@ -235,11 +235,11 @@ fn fill(body: &[u8], zero_types: &[u16], table: &mut [Row])
     ensures { λ r. ⌜ now (table .exit) ≡ filled (now (table .entry)) (ies (now («zero_types» .entry)) 0 (now (body .entry))) ⌝ }
 {
     let mut at = 0;
-    let mut i = 0;
+    let mut row = 0;
     while at < body.len() {
         let ie = record_at(body, at);
-        table[i] = row_of(at, ie);
-        i += 1;
+        table[row] = row_of(at, ie);
+        row += 1;
         at += ie.place + ie.len;
     }
 }
