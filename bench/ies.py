@@ -50,17 +50,17 @@ def bodies_of(classes):
     return bodies
 
 
-def whole_table(bodies):
-    table(["class", "IEs", "ours", "per IE", "each more", "Rust", "per IE", "each more", "ratio"])
-    for body in bodies:
+def whole_table(bodies, dropped):
+    table(["class", "IEs", "ours", "per IE", "each more", "Rust", "per IE", "each more", "ratio", "Rust, dropped", "ratio"])
+    for body, other in zip(bodies, dropped, strict=True):
         words = [body.shown(), f"{body.count:,}"] + body.cells("ours") + body.cells("rust")
-        row(words + [mark(body.ratio(), body.missed())])
+        row(words + [mark(body.ratio(), body.missed()), number(other.sides["rust"]), mark(other.ratio(), False)])
 
 
 def one_table(bodies):
     table(["one IE", "ours", "Rust", "ratio"])
     for body in bodies:
-        row([body.shown(), number(body.sides["ours"]), number(body.sides["rust"]), mark(body.ratio(), body.missed())])
+        row([body.shown(), number(body.sides["ours"]), number(body.sides["rust"]), mark(body.ratio(), False)])
 
 
 def by_name(bodies):
@@ -70,7 +70,7 @@ def by_name(bodies):
     return names
 
 
-def missed_by(what, bodies):
+def missed_in(bodies):
     """The ratios that are too high, by class; says so in a line."""
     accepted = [body for body in bodies if body.what == "read"]
     missed = [body for body in accepted if body.missed()]
@@ -79,7 +79,7 @@ def missed_by(what, bodies):
         ratios = sorted(f"{body.ratio():.3f}" for body in some)
         words.append(f"{name} {ratios[0]}" + (f" to {ratios[-1]}" if len(ratios) > 1 else ""))
     met = f"missed in {len(missed)} of {len(accepted)}: {', '.join(words)}" if missed else f"yes, in all {len(accepted)}"
-    print(f"- {what}, at most {PAYLOADS} of the Rust's instructions, {EMPTY} where all IEs are empty: {met}.")
+    print(f"- Whole bodies, at most {PAYLOADS} of the Rust's instructions, {EMPTY} where all IEs are empty: {met}.")
     return missed
 
 
@@ -107,13 +107,13 @@ def main():
     costs = counted(folder, runs)
     for line in (folder / "machine").read_text().splitlines():
         print(f"- {line}")
-    whole, one = bodies_of(costs["ies"]), bodies_of(costs["ie"])
+    whole, dropped, one = (bodies_of(costs[kind]) for kind in ("ies", "dropped", "ie"))
     print()
-    whole_table(whole)
+    whole_table(whole, dropped)
     print()
     one_table(one)
     print()
-    bad = [missed_by("Whole bodies", whole), missed_by("One IE", one), bent(whole), called_outside(folder)]
+    bad = [missed_in(whole), bent(whole), called_outside(folder)]
     sys.exit(1 if any(bad) else 0)
 
 

@@ -1,13 +1,13 @@
 //! ies: one program with both sides of message bodies, the published Rust as the crate `pfcp` and the archives of ies.rt.txt.
-//! Its arguments: passes.rs, `command`. Ours is lent a table, the same for all bodies; the Rust reads one IE after another into a
-//! new `Vec`, as its own `as_ies` does, and drops that.
+//! Its arguments: passes.rs, `command`. Ours is lent a table, the same for all bodies. The Rust reads one IE after another into a
+//! new `Vec`, as its own `as_ies` does, and drops that; and once more it drops each IE at once, and has nothing to show for it.
 
 #![no_main]
 
 mod passes;
 mod payloads;
 
-use passes::{add, bytes, kept, Call, Check, Run};
+use passes::{add, bytes, kept, Call, Check, Run, Side};
 use payloads::Class;
 use pfcp::error::PfcpError;
 use pfcp::ie::Ie;
@@ -48,6 +48,17 @@ extern "C" fn rust_all(p: *const u8, n: usize, _: *const u8, _: usize) {
                 at += ie.len() as usize;
                 all.push(ie);
             }
+            Err(_) => return,
+        }
+    }
+}
+
+#[inline(never)]
+extern "C" fn rust_dropped(p: *const u8, n: usize, _: *const u8, _: usize) {
+    let (body, mut at) = (bytes(p, n), 0);
+    while at < body.len() {
+        match Ie::unmarshal(&body[at..]) {
+            Ok(ie) => at += ie.len() as usize,
             Err(_) => return,
         }
     }
@@ -149,7 +160,9 @@ fn add_class(runs: &mut Vec<Run>, class: Class, table: *const u8) {
         Call(body.as_ptr(), body.len(), table, ROWS)
     });
     let calls = calls.collect();
-    add(runs, "ies", &class.name, what, [("ours", ours_all, &calls), ("rust", rust_all, &calls)]);
+    for (kind, rust) in [("ies", rust_all as Side), ("dropped", rust_dropped)] {
+        add(runs, kind, &class.name, what, [("ours", ours_all, &calls), ("rust", rust, &calls)]);
+    }
     if class.name.ends_with("_1") {
         add(runs, "ie", &class.name, what, [("ours", ours_one, &calls), ("rust", rust_one, &calls)]);
     }

@@ -18,7 +18,11 @@ add-pair-2 : tie.Need-add-pair-2
 add-pair-2 c = let a = c .before .before .before .before .before in let w = head-there (a .args .s .now) (a .args .at) (a .pre) in search (needs, w)
 
 pair-requires-3 : tie.Need-pair-requires-3
-pair-requires-3 c κs = search number-there
+pair-requires-3 c κs =
+    let v = c .before in
+    let a = v .before .before .before .before in
+    let w = number-there (a .args .s .now) (a .args .at) (a .pre) (v .before .before .pair .ensures .0) (v .before .pair2 .ensures .0) (v .is-vendor .ensures) (c .if1 .taken) in
+    omega (arith, w)
 
 sub-t11 : tie.Need-sub-t11
 sub-t11 c =
