@@ -75,29 +75,38 @@ fn is_small(number: Parsed) -> bool {
     both(number.is_good, number.value <= 65535)
 }
 
+// So many types that were listed, and a list that is none.
+fn listed(count: usize) -> Filled {
+    Filled {
+        is_good: true,
+        len: count,
+    }
+}
+
+const UNLISTED: Filled = Filled {
+    is_good: false,
+    len: 0,
+};
+
 // Puts the numbers of a list, commas between them, into memory.
 fn fill(types: &mut [u16], text: &[u8]) -> Filled {
+    if text.len() == 0 {
+        return listed(0);
+    }
     let mut count = 0;
     let mut at = 0;
-    while 0 < text.len() {
+    loop {
         let end = bytes::scan::find(text, at, text.len(), b',');
         let number = words::decimal(words::part(text, at, end));
         if !both(is_small(number), count < types.len()) {
-            return Filled {
-                is_good: false,
-                len: 0,
-            };
+            return UNLISTED;
         }
         put_type(types, count, number);
         count += 1;
         if end == text.len() {
-            break;
+            return listed(count);
         }
         at = end + 1;
-    }
-    Filled {
-        is_good: true,
-        len: count,
     }
 }
 
