@@ -11,7 +11,6 @@ use borrow.Author.Tests.{le-leb, lt-leb, leb-true, not-true, not-false}
 use Rattle.answer.specs.declared.Answer.{Answer}
 use Rattle.answer.specs.declared.Answer.the-variants.{Done, Short, InputTooLong, ZeroLength}
 use Rattle.octets.specs.Octets.{pick, ifSet, field, bigEndian}
-use Rattle.octets.proofs.Laws.{number-field, number-below}
 use Rattle.ie.specs.Ie.{pairAt, typeOf, lengthOf, isVendor, extra, listed, envelope, recordOf, refused, found, read}
 use Rattle.ie.specs.Steps.{IsWhole, payloadTest, vendorTests}
 use Rattle.ie.specs.declared.Ie.{Ie}
@@ -20,17 +19,6 @@ use Rattle.ie.specs.declared.Envelope.{Envelope}
 use Rattle.ie.specs.declared.Envelope.the-variants.{Whole, Refused}
 
 -- ---- two-byte numbers
-
--- the part of two bytes that the code takes
-module _ (s : List ℕ) (at : ℕ) {p : List ℕ} (e : p ≡ take (at + 2 - at) (drop at s)) where
-  two : p ≡ field s at 2
-  two = let z : at + 2 - at ≡ 2 = omega arith in e ∙ ap (λ (n : ℕ). take n (drop at s)) z
-
-  pub pair-is : {x : ℕ} → x ≡ pick (leb (length p) 8) (bigEndian p) 0 → x ≡ pairAt s at
-  pair-is q = q ∙ ap (λ (l : List ℕ). pick (leb (length l) 8) (bigEndian l) 0) two ∙ number-field s at 2 (omega arith)
-
-  pub pair-fits : {x : ℕ} → x < 256 ^ length p → x < 65536
-  pair-fits {x} h = number-below s at 2 2 x (omega arith) (rw two at h)
 
 -- behind a place
 pub pair-drop : (s : List ℕ) (at k : ℕ) → pairAt (drop at s) k ≡ pairAt s (at + k)

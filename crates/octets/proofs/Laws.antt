@@ -271,6 +271,17 @@ number-field s at w h = rw (le-leb (length (field s at w)) 8 (omega (arith, leng
 pub number-below : (s : List ℕ) (at w m x : ℕ) → w ≤ m → x < 256 ^ length (field s at w) → x < 256 ^ m
 number-below s at w m x h g = lt-of-lt-of-le g (pow-le-pow-right {n = 256} (lit< tt) (omega (arith, length-take w (drop at s))))
 
+-- what `number` gives of a slice from a place on, w bytes long
+module _ (s : List ℕ) (at w : ℕ) {p : List ℕ} (e : p ≡ take (at + w - at) (drop at s)) where
+  part-is : p ≡ field s at w
+  part-is = let z : at + w - at ≡ w = omega arith in e ∙ ap (λ (n : ℕ). take n (drop at s)) z
+
+  pub number-part : {x : ℕ} → w ≤ 8 → x ≡ pick (leb (length p) 8) (bigEndian p) 0 → x ≡ bigEndian (field s at w)
+  number-part h q = q ∙ ap (λ (l : List ℕ). pick (leb (length l) 8) (bigEndian l) 0) part-is ∙ number-field s at w h
+
+  pub part-below : {x : ℕ} → x < 256 ^ length p → x < 256 ^ w
+  part-below {x} h = number-below s at w w x (omega arith) (rw part-is at h)
+
 -- ---- numbers that may be absent
 module _ (w : ℕ) (bs : List ℕ) (t : Bool) (e : t ≡ isNumber w bs) (q : t ≡ true) where
   few : length bs ≤ w

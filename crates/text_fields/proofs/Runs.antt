@@ -7,9 +7,9 @@ use native.Mathlib.Omega.{arith}
 use native.Mathlib.Nat.{add-sub-cancel-left}
 use borrow.Author.Tests.{lt-ltb, le-ltb, ltb-true, ltb-false, eq-eqb, ne-eqb}
 use lib.Dec.{ltb, eqb}
-use lib.ListN.{length, take, drop, length-take, length-drop}
+use lib.ListN.{length, take, drop, length-drop}
 use Rattle.octets.specs.Octets.{pick, bigEndian}
-use Rattle.octets.proofs.Laws.{number-field}
+use Rattle.octets.proofs.Laws.{number-part, part-below}
 use Rattle.text.specs.Utf8.{goodLen, badLen, checked}
 use Rattle.texts.specs.Texts.{isText}
 use Rattle.text_fields.specs.Fields.{lengthAt, fieldAt, textAt, entries, onField, isMaybe, isEmpty, isList}
@@ -27,20 +27,11 @@ use lib.Dec.{leb}
 
 -- the two bytes of a length, from their place on
 module _ (s : List ℕ) (at : ℕ) {p : List ℕ} (e : p ≡ take (at + 2 - at) (drop at s)) where
-  two : p ≡ take 2 (drop at s)
-  two = e ∙ ap (λ (n : ℕ). take n (drop at s)) (add-sub-cancel-left at 2)
-
   pub length-is : {r : ℕ} → r ≡ pick (leb (length p) 8) (bigEndian p) 0 → r ≡ lengthAt s at
-  length-is q = q ∙ ap (λ (l : List ℕ). pick (leb (length l) 8) (bigEndian l) 0) two ∙ number-field s at 2 (omega arith)
+  length-is q = number-part s at 2 e (omega arith) q
 
   pub length-small : {r : ℕ} → r < 256 ^ length p → r < 65536
-  length-small {r} h = go (length p) (omega (arith, ap length two, length-take 2 (drop at s))) h
-    where
-      go : (n : ℕ) → n ≤ 2 → r < 256 ^ n → r < 65536
-      go zero l h = omega arith
-      go (suc zero) l h = omega arith
-      go (suc (suc zero)) l h = omega arith
-      go (suc (suc (suc n))) l h = absurd (omega arith)
+  length-small h = part-below s at 2 e h
 
 -- ---- the field at a place
 

@@ -1,7 +1,8 @@
 -- `ie::pair` meets its contract: two bytes make a number.
 use borrow.Author.Needs.{needs}
 use mathlib.Core.Path.{refl}
-use Rattle.ie.proofs.Envelopes.{pair-is, pair-fits}
+use native.Mathlib.Omega.{arith}
+use Rattle.octets.proofs.Laws.{number-part, part-below}
 use Rattle.ie.proofs.pair.Statement.{statement}
 use Rattle.ie.proofs.pair.Tie as tie
 
@@ -21,12 +22,12 @@ number-requires : tie.Need-number-requires
 number-requires c κs = search needs
 
 cast-result : tie.Need-cast-result
-cast-result c = let x = c .before .before .before .args in record { fits = pair-fits (x .s .now) (x .at) refl (c .number .ensures .1) }
+cast-result c = let x = c .before .before .before .args in record { fits = part-below (x .s .now) (x .at) 2 refl (c .number .ensures .1) }
 
 returns : tie.Need-returns
 returns c =
     let x = c .before .before .before .args in
-    (pair-is (x .s .now) (x .at) refl (c .number .ensures .0), pair-fits (x .s .now) (x .at) refl (c .number .ensures .1))
+    (number-part (x .s .now) (x .at) 2 refl (omega arith) (c .number .ensures .0), part-below (x .s .now) (x .at) 2 refl (c .number .ensures .1))
 
 pub pair-spec : {M : Type 1} → statement M
 pair-spec =
