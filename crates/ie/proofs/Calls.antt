@@ -1,15 +1,13 @@
 -- The whole call, by the tests of the code.
-use Prim.Native.Nat.{ℕ, zero, suc, _+_, _≤_, _<_}
-use mathlib.Core.Path.{_≡_, refl, ap, sym, _∙_}
-use mathlib.Core.List.{List, [], _∷_}
-use mathlib.Core.Bool.{Bool, true, false}
+use Prim.Native.Nat.{ℕ, _+_, _≤_, _<_}
+use mathlib.Core.Path.{_≡_, refl, sym, _∙_}
+use mathlib.Core.List.{List}
+use mathlib.Core.Bool.{true}
 use native.Mathlib.Omega.{arith}
-use lib.Dec.{leb}
 use lib.ListN.{length}
 use borrow.Author.Tests.{le-leb, lt-leb}
 use Rattle.answer.specs.declared.Answer.{Answer}
 use Rattle.answer.specs.declared.Answer.the-variants.{Done, InputTooLong, NoRoom}
-use Rattle.octets.specs.Octets.{pick}
 use Rattle.ie.proofs.Tables.{Table}
 use Rattle.ie.specs.Ie.{Rows, all, guilty, ies, refusedAt, answered, readAll, filled, tabled}
 use Rattle.ie.specs.Steps.{counted, fits}

@@ -1,7 +1,7 @@
 -- The IE at the front, by the tests of the code.
-use Prim.Native.Nat.{ℕ, zero, suc, _+_, _-_, _*_, _^_, _≤_, _<_}
+use Prim.Native.Nat.{ℕ, _+_, _-_, _≤_, _<_}
 use mathlib.Core.Path.{_≡_, refl, ap, sym, _∙_}
-use mathlib.Core.List.{List, [], _∷_}
+use mathlib.Core.List.{List}
 use mathlib.Core.Bool.{Bool, true, false, not, _||_}
 use native.Mathlib.Omega.{arith}
 use lib.Dec.{eqb, leb}
@@ -10,7 +10,7 @@ use lib.Seq.{drop-drop}
 use borrow.Author.Tests.{le-leb, lt-leb, leb-true, not-true, not-false}
 use Rattle.answer.specs.declared.Answer.{Answer}
 use Rattle.answer.specs.declared.Answer.the-variants.{Done, Short, InputTooLong, ZeroLength}
-use Rattle.octets.specs.Octets.{pick, ifSet, field, bigEndian}
+use Rattle.octets.specs.Octets.{pick, ifSet, bigEndian}
 use Rattle.ie.specs.Ie.{pairAt, typeOf, lengthOf, isVendor, extra, listed, envelope, recordOf, refused, found, read}
 use Rattle.ie.specs.Steps.{IsWhole, payloadTest, vendorTests}
 use Rattle.ie.specs.declared.Ie.{Ie}

@@ -1,11 +1,11 @@
 -- What the IEs of a body and their rows are worth.
-use Prim.Native.Nat.{ℕ, zero, suc, _+_, _-_, _^_, _≤_, _<_}
-use mathlib.Core.Path.{_≡_, refl, ap, sym, _∙_}
+use Prim.Native.Nat.{ℕ, zero, suc, _+_, _-_, _≤_, _<_}
+use mathlib.Core.Path.{_≡_, refl, _∙_}
 use mathlib.Core.List.{List, [], _∷_, _++_}
 use mathlib.Core.Bool.{Bool, true, false}
 use native.Mathlib.Omega.{arith}
 use lib.Dec.{leb}
-use lib.ListN.{length, getD, take, drop, length-drop}
+use lib.ListN.{length, drop, length-drop}
 use lib.Seq.{take-append-seam, drop-append-seam}
 use borrow.Author.Tests.{le-leb, leb-false}
 use Rattle.answer.specs.declared.Answer.{Answer}
@@ -18,7 +18,7 @@ use Rattle.ie.proofs.Walks.{turn, none-left}
 use Rattle.ie.specs.declared.IesRead.{IesRead}
 use Rattle.ie.specs.declared.Envelope.{Envelope}
 use Rattle.ie.specs.declared.Envelope.the-variants.{Whole, Refused}
-use Rattle.ie.specs.Ie.{Rows, all, guilty, before, onEnvelope, pairAt, typeOf, isVendor, extra, recordOf, rowOf, envelope, found, read, refused, ies, doneWith, refusedAt, answered, readAll, filled, tabled}
+use Rattle.ie.specs.Ie.{Rows, all, guilty, before, onEnvelope, pairAt, typeOf, extra, recordOf, rowOf, envelope, found, read, refused, ies, doneWith, refusedAt, answered, readAll, filled, tabled}
 use Rattle.ie.specs.Laws.{OneAfterAnother, Covers, Numbered, Owed, Laws}
 
 -- ---- one IE after another

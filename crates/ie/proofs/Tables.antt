@@ -1,18 +1,16 @@
 -- The rows laid into the table, one store after another.
-use Prim.Native.Nat.{ℕ, zero, suc, _+_, _-_, _≤_, _<_}
+use Prim.Native.Nat.{ℕ, suc, _+_, _≤_, _<_}
 use mathlib.Core.Path.{_≡_, refl, ap, sym, _∙_}
 use mathlib.Core.List.{List, [], _∷_, _++_}
-use mathlib.Core.Bool.{Bool, true, false}
+use mathlib.Core.Bool.{true}
 use native.Mathlib.Omega.{arith}
 use native.Mathlib.Numerals.{add-one}
-use lib.Dec.{leb}
-use lib.ListN.{length, take, drop, set, length-set, take-append-drop, length-drop}
+use lib.ListN.{length, take, drop, set, length-set, take-append-drop}
 use lib.Seq.{take-suc-set, drop-set-lt, append-snoc}
 use borrow.Author.Tests.{leb-true}
-use Rattle.octets.specs.Octets.{pick}
 use Rattle.ie.proofs.Envelopes.{record-ends}
 use Rattle.ie.proofs.Walks.{past, stopped, stepped, inside}
-use Rattle.ie.specs.Ie.{Rows, all, guilty, before, lengthOf, recordOf, rowOf, envelope, ies, filled}
+use Rattle.ie.specs.Ie.{Rows, all, guilty, before, recordOf, rowOf, envelope, ies, filled}
 use Rattle.ie.specs.Steps.{IsWhole, fits}
 use Rattle.ie.specs.declared.Ie.{Ie}
 use Rattle.ie.specs.declared.Envelope.{Envelope}

@@ -6,7 +6,7 @@ use mathlib.Core.List.{List, [], _∷_}
 use lib.ListN.{length, getD, take, drop}
 use Rattle.answer.specs.declared.Answer.the-variants.{Done}
 use Rattle.octets.specs.Octets.{Bytes}
-use Rattle.ie.specs.Ie.{isVendor, extra, read, rowOf, Rows, all, guilty, before, ies, readAll, tabled}
+use Rattle.ie.specs.Ie.{isVendor, extra, read, rowOf, all, guilty, before, ies, readAll, tabled}
 
 -- the rows are what reading one IE after another gives: none of no bytes; of others that which is read at the front, and what stands behind
 -- it; or its refusal

@@ -1,6 +1,6 @@
 -- `desk::body_line::put_rows` is safe and ends. The loop's invariant: lent slices keep their lengths. The measure is what is left of the table.
 -- Assumes nothing.
-use Prim.Native.Nat.{_≤_, _-_}
+use Prim.Native.Nat.{_-_}
 use mathlib.Core.Path.{_≡_}
 use borrow.Author.Needs.{needs}
 use lib.ListN.{length}
