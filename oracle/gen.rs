@@ -1,4 +1,4 @@
-//! gen KIND N SEED [--form case|full|build|all|texts] [--from A] [--open] [--list]
+//! gen KIND N SEED [--form case|full|verdict|build|all|texts] [--from A] [--open] [--list]
 //!
 //! Prints the first N lines, or N lines from line A on, of an endless sequence of test lines. The sequence is
 //! fixed by KIND, form and SEED, and each line by its number too. Fixed lines come first, then all of what can
@@ -6,6 +6,7 @@
 //!
 //!   case    payload lines of at most 4,096 digit pairs
 //!   full    payload lines of at most 65,600 digit pairs; of D pairs of numbers, of B bodies with words before them
+//!   verdict payload lines as of `full`, with `V` before them
 //!   build   record lines
 //!   all     every payload of at most three bytes, so of T every text of at most three
 //!   texts   of N and P: every text of at most three bytes, as a name, and as a flow description before a URL
@@ -528,17 +529,19 @@ struct Payloads<'a> {
     pairs: usize,
     /// Random lines stay short.
     short: bool,
+    /// The lines ask for the strict verdict.
+    verdict: bool,
     edges: Vec<Vec<u8>>,
 }
 
 impl<'a> Payloads<'a> {
-    fn new(kind: &'a Kind, pairs: usize, short: bool) -> Self {
+    fn new(kind: &'a Kind, pairs: usize, short: bool, verdict: bool) -> Self {
         let edges = match &kind.texts {
             Some(t) => (t.edges)(),
             None if kind.letter == b'T' && !short => edge_texts(),
             None => Vec::new(),
         };
-        Payloads { kind, pairs, short, edges }
+        Payloads { kind, pairs, short, verdict, edges }
     }
 
     /// Lines that aren't payload lines, of this letter and of others.
@@ -579,18 +582,29 @@ impl<'a> Payloads<'a> {
         self.lengths() + self.edges.len()
     }
 
-    /// How many pairs of a first byte and a length there are, and the empty payload.
+    /// How many pairs of a first byte and a length there are, and the empty payload. For verdicts every length up to 20 comes.
     fn lengths(&self) -> usize {
-        match self.kind.letter {
-            b'T' => 0,
-            _ => 1 + 256 * (self.kind.longest + 3),
+        match (self.kind.letter, self.verdict) {
+            (b'T', _) => 0,
+            (_, false) => 1 + 256 * (self.kind.longest + 3),
+            (_, true) => 1 + 256 * (self.kind.longest + 3).max(20),
         }
+    }
+
+    /// The line of a payload. Of the Node IDs that are judged every second one has any high four bits in its first byte.
+    fn line(&self, r: &mut Random, mut payload: Vec<u8>) -> Vec<u8> {
+        if self.verdict && self.kind.letter == b'N' && r.one_in(2) {
+            if let Some(first) = payload.first_mut() {
+                *first = *first & 0x0F | r.byte() & 0xF0;
+            }
+        }
+        line_of(r, self.kind.letter, &payload)
     }
 
     /// Every length up to a little above the longest form, with every first byte; then the edges of texts.
     fn counted_line(&self, i: usize, r: &mut Random) -> Vec<u8> {
         let payload = match i {
-            _ if i >= self.lengths() => self.edges[i - self.lengths()].clone(),
+            _ if i >= self.lengths() => return self.line(r, self.edges[i - self.lengths()].clone()),
             0 => Vec::new(),
             _ => {
                 let mut p = r.bytes(1 + (i - 1) / 256);
@@ -606,7 +620,7 @@ impl<'a> Payloads<'a> {
         match n {
             0..=7_999 => {
                 let payload = self.payload(r);
-                line_of(r, self.kind.letter, &payload)
+                self.line(r, payload)
             }
             8_000..=9_799 => self.malformed(r),
             _ => self.long_line(r),
@@ -683,7 +697,7 @@ impl<'a> Payloads<'a> {
                 p
             }
         };
-        let mut line = line_of(r, letter, &payload);
+        let mut line = self.line(r, payload);
         if r.one_in(8) {
             spoil(r, &mut line);
         }
@@ -707,6 +721,15 @@ impl<'a> Payloads<'a> {
         without_ends(line)
     }
 }
+
+/// The line that asks for the strict verdict on the payload of another.
+fn judged(line: Vec<u8>) -> Vec<u8> {
+    [b"V", &line[..]].concat()
+}
+
+/// Lines that almost ask for a verdict, with k for the kind's letter.
+const ODD_VERDICTS: [&str; 12] =
+    ["v", "vk 00", "kV 00", " Vk 00", "V k 00", "VVk 00", "V\tk 00", "Vk", "VT 61", "VH 00", "VV 00", "V.k 00"];
 
 /// A payload with a byte changed, cut, doubled, or bytes taken out or put in.
 fn damaged(r: &mut Random, mut p: Vec<u8>) -> Vec<u8> {
@@ -1146,8 +1169,8 @@ struct Sequence<'a> {
 }
 
 impl<'a> Sequence<'a> {
-    fn payloads(kind: &'a Kind, pairs: usize, seed: u64, short: bool) -> Self {
-        let p = Payloads::new(kind, pairs, short);
+    fn payloads(kind: &'a Kind, pairs: usize, seed: u64, short: bool, verdict: bool) -> Self {
+        let p = Payloads::new(kind, pairs, short, verdict);
         let mut r = Random::of(seed, u64::MAX);
         let mut fixed = p.odd_lines();
         for sample in kind.samples {
@@ -1160,6 +1183,10 @@ impl<'a> Sequence<'a> {
             };
             payload.resize(n, b'a');
             fixed.push(line_of(&mut r, kind.letter, &payload));
+        }
+        if verdict {
+            fixed = fixed.into_iter().map(judged).collect();
+            fixed.extend(ODD_VERDICTS.map(|line| line.replace('k', &(kind.letter as char).to_string()).into_bytes()));
         }
         Sequence { seed, fixed, counted: p.counted(), source: Source::Payloads(p) }
     }
@@ -1200,6 +1227,8 @@ impl<'a> Sequence<'a> {
     fn later(&self, n: usize, i: u64) -> Vec<u8> {
         let mut r = Random::of(self.seed, i);
         match (&self.source, n < self.counted) {
+            (Source::Payloads(p), true) if p.verdict => judged(p.counted_line(n, &mut r)),
+            (Source::Payloads(p), false) if p.verdict => judged(p.random_line(&mut r)),
             (Source::Payloads(p), true) => p.counted_line(n, &mut r),
             (Source::Payloads(p), false) => p.random_line(&mut r),
             (Source::Records(p), true) => p.counted_line(n, &mut r),
@@ -1244,7 +1273,7 @@ fn number(word: Option<String>, what: &str) -> u64 {
 
 fn main() {
     let mut args = std::env::args().skip(1);
-    let usage = "usage: gen KIND N SEED [--form case|full|build|all|texts] [--from A] [--open] [--list]";
+    let usage = "usage: gen KIND N SEED [--form case|full|verdict|build|all|texts] [--from A] [--open] [--list]";
     let letter = args.next().unwrap_or_else(|| stop(usage));
     let count = number(args.next(), "N");
     let seed = number(args.next(), "SEED");
@@ -1263,8 +1292,9 @@ fn main() {
         (None, _) if !["B", "D"].contains(&letter.as_str()) => stop(&format!("no kind {letter} yet")),
         (None, "full") if letter == "B" => Sequence::bodies(seed, list),
         (None, "full") => Sequence::distances(seed, list),
-        (Some(kind), "case") => Sequence::payloads(kind, 4_096, seed, list),
-        (Some(kind), "full") => Sequence::payloads(kind, PAIRS, seed, list),
+        (Some(kind), "case") => Sequence::payloads(kind, 4_096, seed, list, false),
+        (Some(kind), "full") => Sequence::payloads(kind, PAIRS, seed, list, false),
+        (Some(kind), "verdict") if b"UFSNOP".contains(&kind.letter) => Sequence::payloads(kind, PAIRS, seed, list, true),
         (Some(kind), "build") if !kind.calls.is_empty() => Sequence::records(kind, seed, list),
         (Some(kind), "all") => Sequence::short_payloads(kind.letter, seed),
         (Some(kind), "texts") if kind.texts.is_some() => Sequence::short_texts(kind.letter, seed),

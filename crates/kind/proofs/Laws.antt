@@ -1,11 +1,11 @@
 -- Laws of the walk over a layout's fields, and of cleared payloads. No contract cites this file.
-use Prim.Native.Nat.{ℕ, zero, suc, _+_, _≤_, _<_}
+use Prim.Native.Nat.{ℕ, zero, suc, _+_, _-_, _^_, _≤_, _<_}
 use native.Mathlib.Omega.{arith}
-use native.Mathlib.Nat.{add-zero, add-assoc, lt-of-le-of-lt}
+use native.Mathlib.Nat.{add-zero, add-assoc, lt-of-le-of-lt, mod-eq-of-lt}
 use mathlib.Core.Path.{_≡_, refl, sym, ap, _∙_}
 use mathlib.Core.Bool.{Bool, true, false}
 use mathlib.Core.List.{List, [], _∷_}
-use lib.Bits.{bitAnd, and-le-l}
+use lib.Bits.{bitAnd, and-le-l, and-mask}
 use lib.Dec.{leb}
 use lib.ListN.{length, getD, take}
 use borrow.Author.Tests.{le-leb, lt-leb, leb-true}
@@ -137,6 +137,12 @@ unfolding clear
 clear-clear [] s = refl
 clear-clear (m ∷ ms) [] = refl
 clear-clear (m ∷ ms) (b ∷ s) = rw (clear-clear ms s, and-and b m)
+
+-- a first byte that has no bit above the low k is as it was where these are kept
+pub clear-low : (k : ℕ) (s : List ℕ) → getD s 0 0 < 2 ^ k → clear ((2 ^ k - 1) ∷ []) s ≡ s
+unfolding clear
+clear-low k [] h = refl
+clear-low k (b ∷ s) h = ap (λ (x : ℕ). x ∷ s) (and-mask b k ∙ mod-eq-of-lt h)
 
 -- behind the first bytes all stands as it was
 pub field-clear : (ms : List ℕ) (at w : ℕ) (s : List ℕ) → length ms ≤ at → field (clear ms s) at w ≡ field s at w

@@ -2,9 +2,10 @@
 use Prim.Native.Nat.{ℕ, zero, suc, _+_, _-_, _≤_, _<_}
 use native.Mathlib.Omega.{arith}
 use mathlib.Core.Path.{_≡_, refl, ap, _∙_}
-use mathlib.Core.List.{List}
+use mathlib.Core.List.{List, [], _∷_}
 use lib.ListN.{length, getD, drop, take, length-drop}
 use lib.Seq.{take-all}
+use lib.Bits.{bitAnd}
 use borrow.Author.Tests.{le-leb, lt-leb, eq-eqb, ne-eqb}
 use Rattle.answer.specs.declared.Answer.the-variants.{Short, NodeType, NotUtf8, InputTooLong}
 use Rattle.octets.specs.declared.MaybeIpv4.{MaybeIpv4}
@@ -12,6 +13,8 @@ use Rattle.octets.specs.declared.MaybeIpv6.{MaybeIpv6}
 use Rattle.octets.specs.Octets.{field, ipv4Of, ipv6Of}
 use Rattle.octets.proofs.Laws.{length-field, ipv4-octets, ipv6-octets}
 use Rattle.text.specs.Utf8.{goodLen, badLen, checked}
+use Rattle.kind.specs.Layout.{clear}
+use Rattle.kind.proofs.Laws.{length-clear}
 use Rattle.node_id.specs.declared.NodeId.{NodeId}
 use Rattle.node_id.specs.declared.NodeIdRead.{NodeIdRead}
 use Rattle.node_id.specs.NodeId.{ofIpv4, ofIpv6, named, refused, accepted, readAddress, readIpv4, readIpv6, readFqdn, byType, read}
@@ -53,6 +56,38 @@ module _ (s : List ℕ) (h : 0 < length s) (g : ℕ) (e : g ≡ goodLen (take (l
   unfolding readFqdn
   whole-name x n q = rw (← all-behind, eq-eqb (1 + g) (length s) (omega arith), q)
 
+-- ---- by the type
+module _ (s : List ℕ) (r : NodeIdRead) (k : ℕ) where
+  pub type-ipv4 : k ≡ 0 → r ≡ readIpv4 s → r ≡ byType k s
+  unfolding byType
+  type-ipv4 e q = rw e q
+
+  pub type-ipv6 : k ≡ 1 → r ≡ readIpv6 s → r ≡ byType k s
+  unfolding byType
+  type-ipv6 e q = rw e q
+
+  pub type-name : k ≡ 2 → r ≡ readFqdn s → r ≡ byType k s
+  unfolding byType
+  type-name e q = rw e q
+
+  pub type-none : 2 < k → r ≡ refused (NodeType k) → r ≡ byType k s
+  unfolding byType
+  type-none g q = go k g q
+    where
+      go : (k : ℕ) → 2 < k → r ≡ refused (NodeType k) → r ≡ byType k s
+      go zero g q = absurd (omega arith)
+      go (suc zero) g q = absurd (omega arith)
+      go (suc (suc zero)) g q = absurd (omega arith)
+      go (suc (suc (suc k))) g q = q
+
+-- what stands in the first byte has no part in it
+type-apart : (k b c : ℕ) (t : List ℕ) → byType k (b ∷ t) ≡ byType k (c ∷ t)
+unfolding byType readAddress readFqdn
+type-apart zero b c t = refl
+type-apart (suc zero) b c t = refl
+type-apart (suc (suc zero)) b c t = refl
+type-apart (suc (suc (suc k))) b c t = refl
+
 -- ---- by the length, then by the type
 module _ (s : List ℕ) (r : NodeIdRead) where
   pub too-long : 65535 < length s → r ≡ refused (InputTooLong (length s)) → r ≡ read s
@@ -70,23 +105,29 @@ module _ (s : List ℕ) (r : NodeIdRead) where
       typed q = rw (le-leb _ _ f, le-leb _ _ h) q
 
       pub by-ipv4 : getD s 0 0 ≡ 0 → r ≡ readIpv4 s → r ≡ read s
-      unfolding byType
-      by-ipv4 e q = typed (rw e q)
+      by-ipv4 e q = typed (type-ipv4 s r _ e q)
 
       pub by-ipv6 : getD s 0 0 ≡ 1 → r ≡ readIpv6 s → r ≡ read s
-      unfolding byType
-      by-ipv6 e q = typed (rw e q)
+      by-ipv6 e q = typed (type-ipv6 s r _ e q)
 
       pub by-name : getD s 0 0 ≡ 2 → r ≡ readFqdn s → r ≡ read s
-      unfolding byType
-      by-name e q = typed (rw e q)
+      by-name e q = typed (type-name s r _ e q)
 
       pub no-type : 2 < getD s 0 0 → r ≡ refused (NodeType (getD s 0 0)) → r ≡ read s
-      unfolding byType
-      no-type g q = typed (go (getD s 0 0) g q)
-        where
-          go : (k : ℕ) → 2 < k → r ≡ refused (NodeType k) → r ≡ byType k s
-          go zero g q = absurd (omega arith)
-          go (suc zero) g q = absurd (omega arith)
-          go (suc (suc zero)) g q = absurd (omega arith)
-          go (suc (suc (suc k))) g q = q
+      no-type g q = typed (type-none s r _ g q)
+
+-- ---- the same under a mask of the first byte
+module _ (m : ℕ) (s : List ℕ) (r : NodeIdRead) where
+  long : length (clear (m ∷ []) s) ≡ length s
+  long = length-clear (m ∷ []) s
+
+  pub masked-too-long : 65535 < length s → r ≡ refused (InputTooLong (length s)) → r ≡ read (clear (m ∷ []) s)
+  masked-too-long h q = too-long (clear (m ∷ []) s) r (omega (arith, long)) (rw long q)
+
+  pub masked-empty : length s ≤ 65535 → length s < 1 → r ≡ refused (Short 0 1 (length s)) → r ≡ read (clear (m ∷ []) s)
+  masked-empty f h q = empty (clear (m ∷ []) s) r (omega (arith, long)) (omega (arith, long)) (rw long q)
+
+pub masked-typed : (m : ℕ) (s : List ℕ) (r : NodeIdRead) → length s ≤ 65535 → 1 ≤ length s → r ≡ byType (bitAnd (getD s 0 0) m) s → r ≡ read (clear (m ∷ []) s)
+unfolding clear
+masked-typed m [] r f h q = absurd (omega arith)
+masked-typed m (b ∷ t) r f h q = typed (bitAnd b m ∷ t) r f h (q ∙ type-apart (bitAnd b m) b (bitAnd b m) t)

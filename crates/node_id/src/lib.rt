@@ -5,11 +5,12 @@ use octets::MaybeIpv4;
 use octets::MaybeIpv6;
 use texts::Text;
 ghost use mathlib.Core.Path.{_≡_};
-ghost use mathlib.Core.List.{_∷_};
+ghost use mathlib.Core.List.{[], _∷_};
 ghost use Prim.Native.Nat.{_<_};
 ghost use lib.ListN.{length};
+ghost use Rattle.kind.specs.Layout.{clear};
 ghost use Rattle.kind.specs.Write.{tooLongOutput, answered, stored};
-ghost use Rattle.node_id.specs.NodeId.{named, ofIpv4, ofIpv6, refused, readIpv4, readIpv6, readFqdn, read, writeRefusal, meaning, wire};
+ghost use Rattle.node_id.specs.NodeId.{named, ofIpv4, ofIpv6, refused, readIpv4, readIpv6, readFqdn, byType, read, writeRefusal, meaning, wire};
 
 pub enum NodeIdType {
     Ipv4,
@@ -107,6 +108,23 @@ fn read_fqdn(payload: &[u8]) -> NodeIdRead
     }
 }
 
+// Reads a payload by a type; what its first byte says doesn't count.
+fn read_typed(kind: u8, payload: &[u8]) -> NodeIdRead
+    requires { ⌜ 0 < length (now payload) ⌝ }
+    ensures { λ r. ⌜ r ≡ byType kind (now (payload .entry)) ⌝ }
+{
+    if kind == 0 {
+        return read_ipv4(payload);
+    }
+    if kind == 1 {
+        return read_ipv6(payload);
+    }
+    if kind == 2 {
+        return read_fqdn(payload);
+    }
+    refused(Answer::NodeType { byte: kind })
+}
+
 // Writes a type and what follows it.
 fn write_typed(out: &mut [u8], kind: u8, bs: &[u8]) -> Written
     ensures { λ r. ⌜ r ≡ answered (tooLongOutput (length (kind ∷ now (bs .entry)))) (kind ∷ now (bs .entry)) (length (now (out .entry))) ⌝ }
@@ -171,6 +189,13 @@ impl NodeId {
     pub fn unmarshal(payload: &[u8]) -> NodeIdRead
         ensures { λ r. ⌜ r ≡ read (now (payload .entry)) ⌝ }
     {
+        NodeId::unmarshal_masked(payload, 0xFF)
+    }
+
+    // Reads a payload of whose first byte the bits of a mask alone count.
+    pub fn unmarshal_masked(payload: &[u8], mask: u8) -> NodeIdRead
+        ensures { λ r. ⌜ r ≡ read (clear (mask ∷ []) (now (payload .entry))) ⌝ }
+    {
         let n = payload.len();
         if 65535 < n {
             return refused(Answer::InputTooLong { length: n });
@@ -182,17 +207,7 @@ impl NodeId {
                 actual: n,
             });
         }
-        let kind = payload[0];
-        if kind == 0 {
-            return read_ipv4(payload);
-        }
-        if kind == 1 {
-            return read_ipv6(payload);
-        }
-        if kind == 2 {
-            return read_fqdn(payload);
-        }
-        refused(Answer::NodeType { byte: kind })
+        read_typed(payload[0] & mask, payload)
     }
 
     pub fn marshal(self, texts: &[u8], out: &mut [u8]) -> Written

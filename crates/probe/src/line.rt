@@ -1,4 +1,5 @@
-// The row of a payload line: a letter, a space, and the payload in hex, a dash for the empty one.
+// The row of a payload line: a letter, a space, and the payload in hex, a dash for the empty one. With `V` before it a line asks for
+// the strict verdict instead.
 use details::fixed;
 use details::refusals;
 use details::texted;
@@ -10,24 +11,71 @@ use pfd_contents::PfdContents;
 use ue_ip_address::UeIpAddress;
 
 // How many bytes a good line has at most: a letter, a space and 65,600 digit pairs.
-pub(crate) const LONGEST: usize = 131202;
+const PLAIN: usize = 131202;
+
+// The same with `V` before them.
+pub(crate) const LONGEST: usize = PLAIN + 1;
+
+// The letter of a line, and how many bytes its payload has.
+struct Asked {
+    letter: u8,
+    len: usize,
+}
+
+impl Asked {
+    // A line of another form has no letter.
+    const OTHER: Asked = Asked { letter: 0, len: 0 };
+}
 
 pub(crate) fn put(out: &mut [u8], at: usize, line: &[u8], payload: &mut [u8]) -> usize {
-    if line.len() < 3 {
-        return rows::put_other(out, at);
+    let is_verdict = check::same(words::part(line, 0, 1), b"V");
+    let plain = words::part(line, octets::if_set(is_verdict, 1), line.len());
+    let asked = take(plain, payload);
+    let bytes = texts::part(payload, 0, asked.len);
+    if is_verdict {
+        return put_verdict(out, at, asked.letter, bytes);
     }
-    if LONGEST < line.len() {
-        return rows::put_other(out, at);
+    put_row(out, at, asked.letter, bytes)
+}
+
+// Takes a line without its `V` apart, and its payload into memory.
+fn take(line: &[u8], payload: &mut [u8]) -> Asked {
+    if line.len() < 3 {
+        return Asked::OTHER;
+    }
+    if PLAIN < line.len() {
+        return Asked::OTHER;
     }
     if line[1] != b' ' {
-        return rows::put_other(out, at);
+        return Asked::OTHER;
     }
-    let text = &line[2..];
-    let filled = words::payload(text, payload);
+    let filled = words::payload(&line[2..], payload);
     if !filled.is_good {
-        return rows::put_other(out, at);
+        return Asked::OTHER;
     }
-    put_row(out, at, line[0], texts::part(payload, 0, filled.len))
+    Asked {
+        letter: line[0],
+        len: filled.len,
+    }
+}
+
+// The strict verdict on a payload, by its letter.
+fn put_verdict(out: &mut [u8], at: usize, letter: u8, payload: &[u8]) -> usize {
+    match letter {
+        b'U' => put_yes_or_no(out, at, strict::ue_ip_address(payload)),
+        b'F' => put_yes_or_no(out, at, strict::f_teid(payload)),
+        b'S' => put_yes_or_no(out, at, strict::fseid(payload)),
+        b'N' => put_yes_or_no(out, at, strict::node_id(payload)),
+        b'O' => put_yes_or_no(out, at, strict::outer_header_creation(payload)),
+        b'P' => put_yes_or_no(out, at, strict::pfd_contents(payload)),
+        _ => rows::put_other(out, at),
+    }
+}
+
+fn put_yes_or_no(out: &mut [u8], at: usize, is_yes: bool) -> usize {
+    let words = *b"no\nyes\n";
+    let row = rows::row(&words, octets::if_set(is_yes, 1));
+    rows::put(out, at, row, &[], b"")
 }
 
 // The row of a payload, by its letter.

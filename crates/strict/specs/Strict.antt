@@ -7,6 +7,7 @@ use lib.Dec.{eqb}
 use Rattle.answer.specs.Paper.{numberOf}
 use Rattle.octets.specs.Octets.{bit}
 use Rattle.kind.specs.Kind.{Reader}
+use Rattle.kind.specs.Layout.{clear}
 use Rattle.ue_ip_address.specs.UeIpAddress as ue
 use Rattle.f_teid.specs.Fteid as fteid
 use Rattle.fseid.specs.Fseid as fseid
@@ -50,12 +51,13 @@ fSeid s = verdict fseid.reader (λ v. v .v4 || v .v6) s
 abbrev pub pfdContents : List ℕ → Bool
 pfdContents s = verdict pfd.reader complete s
 
--- the other three: yes exactly when the reader accepts
+-- Node ID, as request K4 amends document 01: the high four bits of the first byte are cleared, then yes exactly when the reader accepts
+abbrev pub nodeId : List ℕ → Bool
+nodeId s = verdict node.reader (λ v. true) (clear (0x0F ∷ []) s)
+
+-- the other two: yes exactly when the reader accepts
 abbrev pub ueIpAddress : List ℕ → Bool
 ueIpAddress s = verdict ue.reader (λ v. true) s
-
-abbrev pub nodeId : List ℕ → Bool
-nodeId s = verdict node.reader (λ v. true) s
 
 abbrev pub outerHeaderCreation : List ℕ → Bool
 outerHeaderCreation s = verdict ohc.reader (λ v. true) s

@@ -80,10 +80,11 @@ pub fn fseid(payload: &[u8]) -> bool
     accepted_and(answer, octets::either(session.v4, session.v6))
 }
 
+// The high four bits of the type are spare.
 pub fn node_id(payload: &[u8]) -> bool
     ensures { λ r. ⌜ r ≡ nodeId (now (payload .entry)) ⌝ }
 {
-    let node_answer = NodeId::unmarshal(payload).answer;
+    let node_answer = NodeId::unmarshal_masked(payload, 0x0F).answer;
     accepted_and(node_answer, true)
 }
 
