@@ -2,7 +2,7 @@
  * edges
  * Lent memory at its edges, for each kind: images, reports and outputs a byte short, just long enough and longer than needed,
  * payloads and outputs of no bytes, NULL too, at both ends of memory that nobody may touch; also texts that end with the
- * payload and aren't UTF-8. Prints what fails, then one line.
+ * payload and aren't UTF-8, and Node IDs with a spare bit set. Prints what fails, then one line.
  */
 #define _DEFAULT_SOURCE
 #include "kinds.h"
@@ -301,10 +301,41 @@ static void broken_is_told(const struct broken *rows, size_t count)
     }
 }
 
-static void test_texts(void)
+/* Of a Node ID the high four bits of the first byte are spare: the read refuses it where one is set, the verdict passes over it. */
+static void test_spare_bits(void)
 {
-    if (kind->read == yerondatt_node_id_read)
+    static const struct {
+        const char *payload;
+        size_t len;
+        uint64_t verdict;
+    } rows[] = {
+        {"\x10" IPV4, 5, 1},
+        {"\xF0" IPV4, 5, 1},
+        {"\x10\xC0\x00\x02", 4, 0},
+        {"\x11" IPV6, 17, 1},
+        {"\x11" IPV6, 16, 0},
+        {"\xF2", 1, 1},
+        {"\xF2upf", 4, 1},
+        {"\xF2" "a\xC3", 3, 0},
+        {"\xF3", 1, 0},
+    };
+    size_t i;
+    for (i = 0; i < sizeof rows / sizeof *rows; i++) {
+        memcpy(lend(&lent_payload, rows[i].len, edge), rows[i].payload, rows[i].len);
+        must(read_into(kind->size) == YERONDATT_NODE_TYPE, "a Node ID with a spare bit set isn't answered 3");
+        must(kind->strict(lent_payload.bytes, lent_payload.len) == rows[i].verdict,
+             "the strict verdict on a Node ID with a spare bit set is another");
+        must(memcmp(lent_payload.bytes, rows[i].payload, rows[i].len) == 0 && all_guarded(),
+             "judging a Node ID with a spare bit set changes memory");
+    }
+}
+
+static void test_own(void)
+{
+    if (kind->read == yerondatt_node_id_read) {
         broken_is_told(broken_names, sizeof broken_names / sizeof *broken_names);
+        test_spare_bits();
+    }
     if (kind->read == yerondatt_pfd_contents_read)
         broken_is_told(broken_texts, sizeof broken_texts / sizeof *broken_texts);
 }
@@ -316,10 +347,10 @@ int main(void)
         kind = &kinds[i];
         edge = LENT_FRONT;
         test_kind();
-        test_texts();
+        test_own();
         edge = LENT_BACK;
         test_kind();
-        test_texts();
+        test_own();
     }
     printf("edges: %zu tests, %zu failures\n", tests, failures);
     return failures == 0 ? 0 : 1;

@@ -1,7 +1,7 @@
 /*
  * replay <LINES >ANSWERS
- * Answers recorded lines through libyerondatt.a and its header, each as the programs `probe` and `compose` do: payloads to be read,
- * records to be written, texts by their places (oracle/README.md has the forms). bindings/lines.awk picks the lines.
+ * Answers recorded lines through libyerondatt.a and its header, each as the programs `probe` and `compose` do: payloads to be read
+ * or judged, records to be written, texts by their places (oracle/README.md has the forms). bindings/lines.awk picks the lines.
  * Every record goes from the image into its struct, is printed from the struct, is laid into an image again and written.
  * What an answer doesn't show is tested on the way; a line that fails is named on the error output, and the exit status
  * is 1.
@@ -499,7 +499,7 @@ static bool is_strict_pfd_contents(const uint8_t *image)
     return (r.flags & ~there) == 0;
 }
 
-/* Whatever is accepted. */
+/* Whatever is accepted. Of a Node ID with a spare bit set it says nothing, see `has_spare_bits`. */
 static bool is_strict_any(const uint8_t *image)
 {
     (void)image;
@@ -631,6 +631,12 @@ static bool is_empty(const struct kind *kind, const uint8_t *image)
     return true;
 }
 
+/* Of a Node ID the read goes by the whole first byte and the strict verdict by its low four bits; lines of the verdict tell. */
+static bool has_spare_bits(const struct kind *kind, const uint8_t *payload, size_t len)
+{
+    return kind->letter == 'N' && len != 0 && payload[0] >> 4 != 0;
+}
+
 static struct yerondatt_head read_payload(const struct kind *kind, const uint8_t *payload, size_t len)
 {
     uint8_t *image = lend(&lent_image, kind->size, LENT_BACK);
@@ -639,7 +645,8 @@ static struct yerondatt_head read_payload(const struct kind *kind, const uint8_t
     bool is_strict = answer == YERONDATT_DONE && kind->is_strict(image);
     must(answer == head.answer, "the returned number isn't that of the image");
     must(lent_guarded(&lent_image), "bytes beside the image are changed");
-    must(kind->strict(payload, len) == (is_strict ? 1 : 0), "the strict verdict isn't what the record asks for");
+    if (!has_spare_bits(kind, payload, len))
+        must(kind->strict(payload, len) == (is_strict ? 1 : 0), "the strict verdict isn't what the record asks for");
     if (answer != YERONDATT_DONE)
         must(head.count == 0 && is_empty(kind, image), "a refused payload gives more than the empty record");
     return head;
@@ -678,6 +685,15 @@ static void answer_payload(const struct kind *kind, bool is_brief)
     putchar('\n');
 }
 
+static void answer_verdict(const struct kind *kind)
+{
+    const uint8_t *payload = lend_texts();
+    uint64_t verdict = kind->strict(payload, texts.len);
+    must(verdict <= 1, "the strict verdict is neither 1 nor 0");
+    must(is_lent(payload), "the payload is changed");
+    puts(verdict == 1 ? "yes" : "no");
+}
+
 /* ---- a record ---- */
 
 /* The answer of a record, but for its fields. */
@@ -713,15 +729,29 @@ static void answer_record(const struct kind *kind, struct word line, bool is_raw
 
 /* ---- lines ---- */
 
+/* A line without the `V` that asks for the strict verdict. */
+static struct word without_v(struct word line)
+{
+    struct word rest = line;
+    if (line.len != 0 && line.at[0] == 'V') {
+        rest.at++;
+        rest.len--;
+    }
+    return rest;
+}
+
 static void answer_line(struct word line)
 {
-    const struct kind *kind = kind_of(line);
+    const struct kind *kind = kind_of(without_v(line));
     struct word rest = line;
     struct word head = cut(&rest, ' ');
     struct word brief;
     texts.len = 0;
     if (kind == NULL) {
         must(false, "no such kind");
+    } else if (head.len == 2 && line.at[0] == 'V') {
+        lay_text(rest);
+        answer_verdict(kind);
     } else if (head.len == 1 && memchr(line.at, '=', line.len) == NULL) {
         lay_text(rest);
         answer_payload(kind, false);

@@ -269,8 +269,8 @@ static inline bool yerondatt_list_next(const uint8_t *texts, struct yerondatt_li
  *                         many bytes of the output are changed, none where the write is refused. An image shorter than SIZE
  *                         or a report shorter than 40 is answered 8, and neither output nor report is changed. The kinds
  *                         that have texts are also lent the bytes that the texts are in.
- * yerondatt_KIND_strict   1 where the payload is accepted and keeps what TS 29.244 asks besides, which stands at the function;
- *                         0 where not.
+ * yerondatt_KIND_strict   1 where the payload is accepted and keeps what TS 29.244 asks besides, which stands at the function,
+ *                         as does what is judged otherwise than it is read; 0 where not. The payload isn't changed.
  * struct yerondatt_KIND   the record.
  * yerondatt_KIND_from_image    the record in an image of SIZE bytes.
  * yerondatt_KIND_to_image      lays a record into an image of SIZE bytes, with a head of zeros.
@@ -503,6 +503,10 @@ struct yerondatt_node_id {
 uint64_t yerondatt_node_id_read(const uint8_t *payload, size_t payload_len, uint8_t *image, size_t image_len);
 uint64_t yerondatt_node_id_write(const uint8_t *image, size_t image_len, const uint8_t *texts, size_t texts_len, uint8_t *out,
                                  size_t out_len, uint8_t *report, size_t report_len);
+/*
+ * It judges the payload with the high four bits of its first byte cleared, since they are spare: 10 C0 00 02 01 is 1, though
+ * the read answers 3 there.
+ */
 uint64_t yerondatt_node_id_strict(const uint8_t *payload, size_t payload_len);
 
 static inline struct yerondatt_node_id yerondatt_node_id_from_image(const uint8_t *image)

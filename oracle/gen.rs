@@ -566,12 +566,13 @@ impl<'a> Payloads<'a> {
         all
     }
 
-    /// Lengths of payloads around the limits. Short lists have few: the long one, of 131 KB, is in those of S and H alone.
+    /// Lengths of payloads around the limits. Short lists have few: the long one, of 131 KB, is in those of S and H alone, and
+    /// in no list of verdicts.
     fn limits(&self) -> Vec<usize> {
         let most = self.pairs;
         match (self.short, most) {
             (true, 4_096) => vec![4_096, 4_097],
-            (true, _) if !b"SH".contains(&self.kind.letter) => vec![],
+            (true, _) if self.verdict || !b"SH".contains(&self.kind.letter) => vec![],
             (true, _) => vec![65_536],
             (false, 4_096) => vec![4_095, 4_096, 4_097, 4_098],
             (false, _) => vec![4_096, 4_097, 65_534, 65_535, 65_536, 65_537, most - 1, most, most + 1],

@@ -109,6 +109,20 @@ fn node_id() {
     assert_eq!(NodeId::unmarshal(&[2, 0x61, 0xFF]), refused(Kind::NodeId, broken));
 }
 
+/// The high four bits of the first byte are spare: the read refuses them, and the strict verdict passes over them.
+#[test]
+fn node_id_with_spare_bits() {
+    let vendors = [0x10, 192, 0, 2, 1];
+    assert_eq!(NodeId::unmarshal(&vendors), refused(Kind::NodeId, Why::NodeType { byte: 0x10 }));
+    assert!(NodeId::strict(&vendors));
+    assert!(!NodeId::strict(&vendors[..4]));
+    assert!(NodeId::strict(b"\xF2upf"));
+    assert!(!NodeId::strict(b"\xF2up\xC3"));
+    for first in 0..=0xFF {
+        assert_eq!(NodeId::strict(&[first, 192, 0, 2, 1]), first & 0x0F == 0, "{first:02X}");
+    }
+}
+
 #[test]
 fn outer_header_creation() {
     let read = OuterHeaderCreation::unmarshal(&[0x01, 0xFF, 0, 0, 0, 7, 192, 0, 2, 1]).unwrap();

@@ -5,7 +5,8 @@
 macro_rules! kind {
     ($record:ty, $kind:expr) => {
         impl $record {
-            /// Reads a payload. Bytes behind the last field, and spare bits, don't count.
+            /// Reads a payload. Bytes behind the last field, and spare bits, don't count; but of a Node ID the whole
+            /// first byte is the type.
             ///
             /// # Errors
             /// The refusals 1 to 5, as [`Why`](crate::error::Why) tells them.
@@ -22,7 +23,8 @@ macro_rules! kind {
                 Ok((Self::of_image(&image, payload), used))
             }
 
-            /// The strict verdict on a payload: it is read, and has what TS 29.244 asks for beyond that.
+            /// The strict verdict on a payload: it is read, and has what TS 29.244 asks for beyond that. A Node ID is
+            /// judged with the high four bits of its first byte cleared, since they are spare.
             pub fn strict(payload: &[u8]) -> bool {
                 crate::boundary::strict($kind, payload)
             }

@@ -84,6 +84,9 @@ fn outcome(line: &[u8], recorded: &str, full: bool) -> Outcome {
     if line.starts_with("T ") {
         return text(&payload(line));
     }
+    if let Some(judged) = line.strip_prefix('V') {
+        return Answer(verdict(judged.as_bytes()[0], &payload(judged)));
+    }
     if !line.contains(['=', '.']) {
         return Answer(payload_answer(line.as_bytes()[0], &payload(line), full, false));
     }
@@ -114,6 +117,15 @@ fn text(bytes: &[u8]) -> Outcome {
     }
 }
 
+fn verdict(kind: u8, payload: &[u8]) -> String {
+    if record::strict(kind, payload) { "yes".into() } else { "no".into() }
+}
+
+/// Of a Node ID the read goes by the whole first byte and the strict verdict by its low four bits: lines of the verdict tell.
+fn has_spare_bits(kind: u8, payload: &[u8]) -> bool {
+    kind == b'N' && payload.first().is_some_and(|first| first >> 4 != 0)
+}
+
 fn payload_answer(kind: u8, payload: &[u8], full: bool, brief: bool) -> String {
     match record::read(kind, payload) {
         Ok((record, used)) => {
@@ -127,7 +139,9 @@ fn payload_answer(kind: u8, payload: &[u8], full: bool, brief: bool) -> String {
         }
         Err(refusal) => {
             assert_eq!(record::read_alone(kind, payload), Err(refusal));
-            assert!(!record::strict(kind, payload), "a refused payload is not strict");
+            if !has_spare_bits(kind, payload) {
+                assert!(!record::strict(kind, payload), "a refused payload is not strict");
+            }
             let number = refusal.number();
             if full {
                 format!("{number} 0 - | {}", details(&refusal))
@@ -138,7 +152,7 @@ fn payload_answer(kind: u8, payload: &[u8], full: bool, brief: bool) -> String {
     }
 }
 
-/// What the recorded lists don't show of a payload that is accepted.
+/// What the payload's own line doesn't show of a payload that is accepted.
 fn holds_of_accepted(kind: u8, payload: &[u8], record: &Record, used: usize) {
     assert_eq!(record::read_alone(kind, payload).as_ref(), Ok(record));
     assert_eq!(
