@@ -297,8 +297,8 @@ def s_noaddr_short(c):
 
 # ---------------------------------------------------------------- Node ID
 
-@differs("N-NIBBLE", "N", "refusal 3: the type is the whole first byte", "the type is the low four bits, the rest spare",
-         "they: the high four bits are spare (quoted)")
+@differs("N-NIBBLE", "N", "refusal 3: the type is the whole first byte. The strict verdict clears the high four bits before it judges (K4)",
+         "the type is the low four bits, the rest spare", "they, and the strict verdict: the high four bits are spare (quoted)")
 def n_nibble(c):
     if c.ours.number == 3 and c.payload[0] >> 4 and node_there(c):
         return {"verdict", "note spare", "note unwritable"} | ({"note wrong"} if c.payload[1:2] >= b"\x40" else set())

@@ -118,7 +118,7 @@ fn text(bytes: &[u8]) -> Outcome {
 }
 
 fn verdict(kind: u8, payload: &[u8]) -> String {
-    if record::strict(kind, payload) { "yes".into() } else { "no".into() }
+    String::from(if record::strict(kind, payload) { "yes" } else { "no" })
 }
 
 /// Of a Node ID the read goes by the whole first byte and the strict verdict by its low four bits: lines of the verdict tell.
