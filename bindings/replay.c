@@ -499,7 +499,7 @@ static bool is_strict_pfd_contents(const uint8_t *image)
     return (r.flags & ~there) == 0;
 }
 
-/* Whatever is accepted. Of a Node ID with a spare bit set it says nothing, see `has_spare_bits`. */
+/* Whatever is accepted. */
 static bool is_strict_any(const uint8_t *image)
 {
     (void)image;

@@ -269,8 +269,8 @@ static inline bool yerondatt_list_next(const uint8_t *texts, struct yerondatt_li
  *                         many bytes of the output are changed, none where the write is refused. An image shorter than SIZE
  *                         or a report shorter than 40 is answered 8, and neither output nor report is changed. The kinds
  *                         that have texts are also lent the bytes that the texts are in.
- * yerondatt_KIND_strict   1 where the payload is accepted and keeps what TS 29.244 asks besides, which stands at the function,
- *                         as does what is judged otherwise than it is read; 0 where not. The payload isn't changed.
+ * yerondatt_KIND_strict   1 where the payload is accepted and keeps what TS 29.244 asks besides, 0 where not. What that is, and
+ *                         what is judged otherwise than it is read (of a Node ID), stands at the function.
  * struct yerondatt_KIND   the record.
  * yerondatt_KIND_from_image    the record in an image of SIZE bytes.
  * yerondatt_KIND_to_image      lays a record into an image of SIZE bytes, with a head of zeros.

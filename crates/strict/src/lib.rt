@@ -80,7 +80,7 @@ pub fn fseid(payload: &[u8]) -> bool
     accepted_and(answer, octets::either(session.v4, session.v6))
 }
 
-// The high four bits of the type are spare.
+// The type is the low four bits of the first byte; the others are spare.
 pub fn node_id(payload: &[u8]) -> bool
     ensures { λ r. ⌜ r ≡ nodeId (now (payload .entry)) ⌝ }
 {
