@@ -57,28 +57,12 @@ module _ (s : List ℕ) (h : 0 < length s) (g : ℕ) (e : g ≡ goodLen (take (l
   whole-name x n q = rw (← all-behind, eq-eqb (1 + g) (length s) (omega arith), q)
 
 -- ---- by the type
-module _ (s : List ℕ) (r : NodeIdRead) (k : ℕ) where
-  pub type-ipv4 : k ≡ 0 → r ≡ readIpv4 s → r ≡ byType k s
-  unfolding byType
-  type-ipv4 e q = rw e q
-
-  pub type-ipv6 : k ≡ 1 → r ≡ readIpv6 s → r ≡ byType k s
-  unfolding byType
-  type-ipv6 e q = rw e q
-
-  pub type-name : k ≡ 2 → r ≡ readFqdn s → r ≡ byType k s
-  unfolding byType
-  type-name e q = rw e q
-
-  pub type-none : 2 < k → r ≡ refused (NodeType k) → r ≡ byType k s
-  unfolding byType
-  type-none g q = go k g q
-    where
-      go : (k : ℕ) → 2 < k → r ≡ refused (NodeType k) → r ≡ byType k s
-      go zero g q = absurd (omega arith)
-      go (suc zero) g q = absurd (omega arith)
-      go (suc (suc zero)) g q = absurd (omega arith)
-      go (suc (suc (suc k))) g q = q
+pub no-type : (s : List ℕ) (r : NodeIdRead) (k : ℕ) → 2 < k → r ≡ refused (NodeType k) → r ≡ byType k s
+unfolding byType
+no-type s r zero g q = absurd (omega arith)
+no-type s r (suc zero) g q = absurd (omega arith)
+no-type s r (suc (suc zero)) g q = absurd (omega arith)
+no-type s r (suc (suc (suc k))) g q = q
 
 -- what stands in the first byte has no part in it
 type-apart : (k b c : ℕ) (t : List ℕ) → byType k (b ∷ t) ≡ byType k (c ∷ t)
@@ -104,17 +88,8 @@ module _ (s : List ℕ) (r : NodeIdRead) where
       unfolding read
       typed q = rw (le-leb _ _ f, le-leb _ _ h) q
 
-      pub by-ipv4 : getD s 0 0 ≡ 0 → r ≡ readIpv4 s → r ≡ read s
-      by-ipv4 e q = typed (type-ipv4 s r _ e q)
-
-      pub by-ipv6 : getD s 0 0 ≡ 1 → r ≡ readIpv6 s → r ≡ read s
-      by-ipv6 e q = typed (type-ipv6 s r _ e q)
-
-      pub by-name : getD s 0 0 ≡ 2 → r ≡ readFqdn s → r ≡ read s
-      by-name e q = typed (type-name s r _ e q)
-
-      pub no-type : 2 < getD s 0 0 → r ≡ refused (NodeType (getD s 0 0)) → r ≡ read s
-      no-type g q = typed (type-none s r _ g q)
+      pub of-type : (k : ℕ) → getD s 0 0 ≡ k → r ≡ byType k s → r ≡ read s
+      of-type k e q = typed (rw e q)
 
 -- ---- the same under a mask of the first byte
 module _ (m : ℕ) (s : List ℕ) (r : NodeIdRead) where

@@ -1,21 +1,26 @@
 -- `node_id::read_typed` meets its contract: by the type.
 use native.Mathlib.Omega.{arith}
-use Rattle.node_id.proofs.Returns.{type-ipv4, type-ipv6, type-name, type-none}
+use mathlib.Core.Path.{_≡_}
+use Rattle.node_id.specs.NodeId.{byType}
+use Rattle.node_id.proofs.Returns.{no-type}
 use borrow.Author.Needs.{needs}
 use Rattle.node_id.proofs.read_typed.Statement.{statement}
 use Rattle.node_id.proofs.read_typed.Tie as tie
 
 returns : tie.Need-returns
-returns c = search type-ipv4
+unfolding byType
+returns c = let e : c .before .before .before .args .kind ≡ 0 = omega arith in rw e (c .read-ipv4 .ensures)
 
 returns-2 : tie.Need-returns-2
-returns-2 c = search type-ipv6
+unfolding byType
+returns-2 c = let e : c .before .before .before .before .args .kind ≡ 1 = omega arith in rw e (c .read-ipv6 .ensures)
 
 returns-3 : tie.Need-returns-3
-returns-3 c = search type-name
+unfolding byType
+returns-3 c = let e : c .before .before .before .before .before .args .kind ≡ 2 = omega arith in rw e (c .read-fqdn .ensures)
 
 returns-4 : tie.Need-returns-4
-returns-4 c = type-none _ _ _ (omega arith) (c .refused .ensures)
+returns-4 c = no-type _ _ _ (omega arith) (c .refused .ensures)
 
 pub read-typed-spec : {M : Type 1} → statement M
 read-typed-spec =
