@@ -1,8 +1,10 @@
 // What a call answers: done, or the refusal with its values.
+#![tactic(auto)]
+
 ghost use Rattle.std.specs.Prelude.{◌≡◌};
 ghost use Rattle.answer.specs.Paper.{number_of, values_of};
 
-#[derive(Drop)]
+#[derive(Clone, Copy)]
 pub enum Answer {
     // 0
     Done,
@@ -52,11 +54,11 @@ pub enum Answer {
 }
 
 // The values that the paper gives with an answer, in its order; those that it doesn't name are 0.
-#[derive(Drop)]
+#[derive(Clone, Copy)]
 pub struct Values(pub usize, pub usize, pub usize);
 
 // What a write answers, with the written length.
-#[derive(Drop)]
+#[derive(Clone, Copy)]
 pub struct Written {
     pub answer: Answer,
     pub len: usize,

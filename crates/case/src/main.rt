@@ -1,4 +1,6 @@
 // Answers each line of the standard input by a row on the standard output. Input of any length takes constant memory.
+#![tactic(auto)]
+
 ghost use Rattle.std.specs.Prelude.{◌≡◌, ◌+◌, ◌≤◌, length};
 ghost use Rattle.octets.specs.Octets.{put};
 ghost use Rattle.case_line.specs.Line.{printed};
@@ -12,7 +14,7 @@ const LONGEST: usize = 8195;
 const ROW: usize = 8218;
 
 // How much of the output is ready to be written, and whether it could be written where that was due.
-#[derive(Drop)]
+#[derive(Clone, Copy)]
 struct Room {
     ready: usize,
     ok: bool,
@@ -41,7 +43,7 @@ fn answer(line: &[u8], output: &mut [u8], ready: usize) -> usize
 }
 
 // Where the first line that has no end starts, and whether all answers could be written.
-#[derive(Drop)]
+#[derive(Clone, Copy)]
 struct Lines {
     start: usize,
     ok: bool,
@@ -55,7 +57,7 @@ fn answer_lines(input: &[u8], searched: usize, output: &mut [u8]) -> Lines
     let n = input.len();
     let mut start = 0;
     let mut ready = 0;
-    let mut at = bytes::scan::find(input, searched, n, b'\n');
+    let mut at = slices::find(input, searched, n, b'\n');
     while at < n {
         let room = make_room(output, ready);
         if !room.ok {
@@ -63,7 +65,7 @@ fn answer_lines(input: &[u8], searched: usize, output: &mut [u8]) -> Lines
         }
         ready = answer(&input[start..at], output, room.ready);
         start = at + 1;
-        at = bytes::scan::find(input, start, n, b'\n');
+        at = slices::find(input, start, n, b'\n');
     }
     let ok = io::write_all(STDOUT_FILENO, &output[..ready]);
     Lines { start, ok }
@@ -84,7 +86,7 @@ fn move_pending(input: &mut [u8], start: usize, end: usize) -> usize
 }
 
 // Where the input ends after a read, and whether that failed.
-#[derive(Drop)]
+#[derive(Clone, Copy)]
 struct Got {
     end: usize,
     failed: bool,
@@ -104,7 +106,7 @@ fn read_behind(input: &mut [u8], pending: usize) -> Got
 }
 
 // How much of an unfinished line stands at the front of the input, and whether there may be more to read.
-#[derive(Drop)]
+#[derive(Clone, Copy)]
 struct Rest {
     pending: usize,
     more: bool,

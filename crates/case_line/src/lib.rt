@@ -1,4 +1,6 @@
 // The lines of the case program: a payload in hex is read, written again, and answered by a row.
+#![tactic(auto)]
+
 ghost use Rattle.std.specs.Prelude.{◌≡◌, ◌∷◌, [], ◌++◌, ◌+◌, ◌*◌, ◌<◌, ◌≤◌, length, take};
 ghost use Rattle.std.proofs.Math.Option.{none, some};
 ghost use Rattle.octets.specs.Octets.{pick, put};
@@ -70,7 +72,7 @@ fn put_row(out: &mut [u8], number: u8, used: usize, bs: &[u8]) -> usize
 }
 
 // The row of a line, whose bytes are the first `len` of a lent buffer; not `known` where the line is another one.
-#[derive(Drop)]
+#[derive(Clone, Copy)]
 struct LineRow {
     known: bool,
     number: u8,
@@ -196,7 +198,7 @@ fn row_for(letter: u8, payload: &[u8], bytes: &mut [u8]) -> LineRow
 }
 
 // Whether a text gives a payload, and how long that is.
-#[derive(Drop)]
+#[derive(Clone, Copy)]
 struct Found {
     good: bool,
     len: usize,

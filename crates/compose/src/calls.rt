@@ -67,7 +67,7 @@ const S_KEYS: u32 = 1 << SEID | BOTH;
 const O_KEYS: u32 = 1 << FLAGS | 1 << TEID | BOTH | 1 << PORT | TAGS;
 
 // The keys that a call needs, those that it takes besides, those that it takes again and again, and the greatest flags.
-#[derive(Drop)]
+#[derive(Clone, Copy)]
 struct Keys(u32, u32, u32, usize);
 
 fn keys_of(call: usize) -> Keys {

@@ -27,10 +27,10 @@ fn with_word(b: FteidBuilder, word: &[u8]) -> FteidBuilder {
 // The builder after all calls, in the order of the line.
 fn builder_of(line: &[u8]) -> FteidBuilder {
     let mut b = Fteid::builder();
-    let mut end = bytes::scan::find(line, 0, line.len(), b' ');
+    let mut end = slices::find(line, 0, line.len(), b' ');
     while end < line.len() {
         let at = end + 1;
-        end = bytes::scan::find(line, at, line.len(), b' ');
+        end = slices::find(line, at, line.len(), b' ');
         b = with_word(b, part(line, at, end));
     }
     b

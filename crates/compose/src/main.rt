@@ -1,4 +1,6 @@
 // Answers each line of the standard input, a record by its fields, a constructor or a builder's calls, by a row with every detail.
+#![tactic(auto)]
+
 mod calls;
 mod f_teid_calls;
 mod f_teid_line;

@@ -4,7 +4,7 @@ use octets::both;
 use words::part;
 
 // What a value gives: a text or a list, by its place, its length and its count of texts; or a number, as a place.
-#[derive(Drop)]
+#[derive(Clone, Copy)]
 pub(crate) struct Given {
     pub is_good: bool,
     pub place: usize,
@@ -62,7 +62,7 @@ pub(crate) fn hexadecimal(value: &[u8], width: usize) -> Given {
 
 // An IPv4 address in the count, a comma, and an IPv6 address.
 pub(crate) fn two_addresses(value: &[u8]) -> Given {
-    let comma = bytes::scan::find(value, 0, value.len(), b',');
+    let comma = slices::find(value, 0, value.len(), b',');
     let ipv4 = one_number(part(value, 0, comma), 4);
     let ipv6 = two_halves(part(value, after(comma, 1), value.len()));
     Given {
@@ -75,7 +75,7 @@ pub(crate) fn two_addresses(value: &[u8]) -> Given {
 
 // A place and a length, with a sign between them.
 pub(crate) fn span(value: &[u8]) -> Given {
-    let sign = bytes::scan::find(value, 0, value.len(), b'+');
+    let sign = slices::find(value, 0, value.len(), b'+');
     let place = words::decimal(part(value, 0, sign));
     let len = words::decimal(part(value, after(sign, 1), value.len()));
     Given {
@@ -88,7 +88,7 @@ pub(crate) fn span(value: &[u8]) -> Given {
 
 // A span, and behind a star a count.
 pub(crate) fn counted_span(value: &[u8]) -> Given {
-    let star = bytes::scan::find(value, 0, value.len(), b'*');
+    let star = slices::find(value, 0, value.len(), b'*');
     let span = span(part(value, 0, star));
     let count = words::decimal(part(value, after(star, 1), value.len()));
     Given {

@@ -10,7 +10,7 @@ use text_fields::{MaybeText, TextList};
 use words::part;
 
 // A builder after some calls, the answer of the last, and the record whose fields are as the keys have them.
-#[derive(Drop)]
+#[derive(Clone, Copy)]
 struct Calls {
     answer: Answer,
     builder: PfdContentsBuilder,
@@ -136,10 +136,10 @@ fn all_calls(
         builder: PfdContents::builder(),
         record: PfdContents::EMPTY,
     };
-    let mut end = bytes::scan::find(line, 0, line.len(), b' ');
+    let mut end = slices::find(line, 0, line.len(), b' ');
     while end < line.len() {
         let at = end + 1;
-        end = bytes::scan::find(line, at, line.len(), b' ');
+        end = slices::find(line, at, line.len(), b' ');
         calls = with_word(calls, part(line, at, end), has_places, texts, len, starts);
     }
     calls

@@ -14,7 +14,7 @@ pub(crate) const V6_LOW: usize = 30;
 pub(crate) const NAME_PLACE: usize = 31;
 
 // Whether all words of a line are good, the bits of the keys that it has, and of those that it has again.
-#[derive(Drop)]
+#[derive(Clone, Copy)]
 pub(crate) struct Seen {
     pub is_good: bool,
     pub keys: u32,
@@ -163,10 +163,10 @@ fn with_word(
 // Sees all words behind a line's first.
 pub(crate) fn look(line: &[u8], has_places: bool, texts: &mut [u8], values: &mut Values) -> Seen {
     let mut seen = Seen::NOTHING;
-    let mut end = bytes::scan::find(line, 0, line.len(), b' ');
+    let mut end = slices::find(line, 0, line.len(), b' ');
     while end < line.len() {
         let at = end + 1;
-        end = bytes::scan::find(line, at, line.len(), b' ');
+        end = slices::find(line, at, line.len(), b' ');
         seen = with_word(seen, part(line, at, end), has_places, texts, values);
     }
     seen

@@ -56,7 +56,7 @@ fn repeat(out: &mut [u8], at: usize, n: usize, end: usize) {
 }
 
 fn text(out: &mut [u8], at: usize, value: &[u8]) -> Given {
-    let star = bytes::scan::find(value, 0, value.len(), b'*');
+    let star = slices::find(value, 0, value.len(), b'*');
     let digits = part(value, 0, star);
     let n = put_digits(out, at, digits);
     let len = text_len(digits.len(), n, times(value, star));
@@ -101,7 +101,7 @@ fn entries(out: &mut [u8], at: usize, value: &[u8], head: usize) -> Given {
     };
     let mut from = 0;
     loop {
-        let to = bytes::scan::find(value, from, value.len(), b',');
+        let to = slices::find(value, from, value.len(), b',');
         stored = with_entry(stored, out, part(value, from, to), head);
         if to == value.len() {
             return stored;

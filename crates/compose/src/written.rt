@@ -16,7 +16,7 @@ pub(crate) fn buffer() -> [u8; 65535]
 }
 
 // Where the row ends, and whether fields come behind it.
-#[derive(Drop)]
+#[derive(Clone, Copy)]
 struct Begun {
     pub end: usize,
     pub has_fields: bool,

@@ -25,7 +25,7 @@ pub(crate) fn table() -> [Row; 16384] {
 }
 
 // What the words before a body ask for: a table of so many rows, and so many types that are listed; and where the body begins.
-#[derive(Drop)]
+#[derive(Clone, Copy)]
 struct Asked {
     fields: Fields,
     room: usize,
@@ -94,7 +94,7 @@ fn fill(types: &mut [u16], text: &[u8]) -> Filled {
     let mut count = 0;
     let mut at = 0;
     loop {
-        let end = bytes::scan::find(text, at, text.len(), b',');
+        let end = slices::find(text, at, text.len(), b',');
         let number = words::decimal(words::part(text, at, end));
         if !both(is_small(number), count < types.len()) {
             return UNLISTED;
@@ -119,7 +119,7 @@ fn look(text: &[u8], types: &mut [u16]) -> Asked {
     let mut asked = Asked::START;
     let mut at = 0;
     loop {
-        let end = bytes::scan::find(text, at, text.len(), b' ');
+        let end = slices::find(text, at, text.len(), b' ');
         if end == text.len() {
             asked.body = at;
             return asked;

@@ -3,7 +3,7 @@ use lines::after;
 use octets::both;
 
 pub(crate) fn put(out: &mut [u8], at: usize, text: &[u8]) -> usize {
-    let space = bytes::scan::find(text, 0, text.len(), b' ');
+    let space = slices::find(text, 0, text.len(), b' ');
     let from = words::decimal(words::part(text, 0, space));
     let to = words::decimal(words::part(text, after(space, 1), text.len()));
     if !both(from.is_good, to.is_good) {

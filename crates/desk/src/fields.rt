@@ -14,7 +14,7 @@ const UNKNOWN: u8 = 254;
 pub(crate) type Values = [u64; 16];
 
 // Whether the words of a line are good, and the bits of the keys that it has.
-#[derive(Drop)]
+#[derive(Clone, Copy)]
 pub(crate) struct Fields {
     pub is_good: bool,
     keys: u32,
@@ -88,7 +88,7 @@ pub(crate) fn look(text: &[u8], keys: &[u8], forms: &[u8], values: &mut Values) 
     let mut fields = Fields::NONE;
     let mut at = 0;
     loop {
-        let end = bytes::scan::find(text, at, text.len(), b' ');
+        let end = slices::find(text, at, text.len(), b' ');
         fields = with_word(fields, words::part(text, at, end), keys, forms, values);
         if end == text.len() {
             return fields;

@@ -1,4 +1,6 @@
 // Answers each line of the standard input, what a desk asks beyond one payload, by a row with every detail.
+#![tactic(auto)]
+
 mod body_line;
 mod distance_line;
 mod fields;

@@ -1,11 +1,13 @@
 // The signed distance from one sequence number to another, counted around 2 to the 24th.
+#![tactic(auto)]
+
 ghost use Rattle.std.specs.Prelude.{◌≡◌};
 ghost use Rattle.distance.specs.Distance.{distance};
 
 use answer::Answer;
 use types::SequenceNumber;
 
-#[derive(Drop)]
+#[derive(Clone, Copy)]
 pub struct Distance {
     pub answer: Answer,
     pub value: i32,

@@ -1,4 +1,6 @@
 // The F-TEID payload: a tunnel endpoint identifier with its addresses, or a request to choose them; and its builder.
+#![tactic(auto)]
+
 ghost use Rattle.std.specs.Prelude.{◌≡◌, true, false, ◌≤◌, ◌<◌, length, get_or};
 ghost use Rattle.octets.specs.Octets.{pick, bit, put};
 ghost use Rattle.answer.specs.Paper.{written};
@@ -9,7 +11,7 @@ use answer::{Answer, Written};
 use octets::{MaybeIpv4, MaybeIpv6, MaybeU8};
 use types::{MaybeTeid, Teid};
 
-#[derive(Drop)]
+#[derive(Clone, Copy)]
 pub struct Fteid {
     pub v4: bool,
     pub v6: bool,
@@ -22,7 +24,7 @@ pub struct Fteid {
 }
 
 // What reading a payload answers; the record is empty where it is refused.
-#[derive(Drop)]
+#[derive(Clone, Copy)]
 pub struct FteidRead {
     pub answer: Answer,
     pub used: usize,
@@ -30,7 +32,7 @@ pub struct FteidRead {
 }
 
 // What a record is built from: the last setting of each field stands.
-#[derive(Drop)]
+#[derive(Clone, Copy)]
 pub struct FteidBuilder {
     teid: MaybeTeid,
     ipv4_address: MaybeIpv4,
@@ -41,7 +43,7 @@ pub struct FteidBuilder {
 }
 
 // What a build answers; the record is empty where it is refused.
-#[derive(Drop)]
+#[derive(Clone, Copy)]
 pub struct FteidBuilt {
     pub answer: Answer,
     pub record: Fteid,

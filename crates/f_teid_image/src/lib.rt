@@ -1,4 +1,6 @@
 // The F-TEID in a record image.
+#![tactic(auto)]
+
 ghost use Rattle.std.specs.Prelude.{◌≡◌, true, false, ◌≤◌, ◌<◌, length, get_or, ◌++◌};
 ghost use Rattle.answer.specs.declared.Answer.TheVariants.{Done};
 ghost use Rattle.answer.specs.Paper.{number_of};

@@ -1,4 +1,6 @@
 // The F-SEID payload: a session endpoint identifier with its addresses.
+#![tactic(auto)]
+
 ghost use Rattle.std.specs.Prelude.{◌≡◌, length};
 ghost use Rattle.octets.specs.Octets.{put};
 ghost use Rattle.answer.specs.Paper.{written};
@@ -8,7 +10,7 @@ use answer::{Answer, Written};
 use octets::{MaybeIpv4, MaybeIpv6};
 use types::Seid;
 
-#[derive(Drop)]
+#[derive(Clone, Copy)]
 pub struct Fseid {
     pub v4: bool,
     pub v6: bool,
@@ -18,7 +20,7 @@ pub struct Fseid {
 }
 
 // What reading a payload answers; the record is empty where it is refused.
-#[derive(Drop)]
+#[derive(Clone, Copy)]
 pub struct FseidRead {
     pub answer: Answer,
     pub used: usize,

@@ -1,4 +1,6 @@
 // The header of a message: flags, type, length, a SEID that may be sent, sequence number and priority.
+#![tactic(auto)]
+
 ghost use Rattle.std.specs.Prelude.{◌≡◌, length};
 ghost use Rattle.octets.specs.Octets.{put};
 ghost use Rattle.answer.specs.Paper.{written};
@@ -7,7 +9,7 @@ ghost use Rattle.header.specs.Header.{made, wire, read, refused};
 use answer::{Answer, Written};
 use types::{Seid, SequenceNumber};
 
-#[derive(Drop)]
+#[derive(Clone, Copy)]
 pub struct Header {
     pub version: u8,
     pub has_fo: bool,
@@ -21,7 +23,7 @@ pub struct Header {
 }
 
 // What reading a header answers; the record is empty where it is refused.
-#[derive(Drop)]
+#[derive(Clone, Copy)]
 pub struct HeaderRead {
     pub answer: Answer,
     pub used: usize,

@@ -1,4 +1,6 @@
 // Bytes in hex, and numbers in decimal, as ASCII text. Every call is total: text that doesn't fit isn't put.
+#![tactic(auto)]
+
 mod worths;
 
 ghost use Rattle.std.specs.Prelude.{◌≡◌, ◌/◌, ◌<◌, ◌≤◌, min, length};

@@ -1,4 +1,6 @@
 // The IEs of a message body: the envelope of each, and all of them in a lent table.
+#![tactic(auto)]
+
 ghost use Rattle.std.specs.Prelude.{◌≡◌, true, not, ◌||◌, ◌+◌, ◌≤◌, ◌<◌, eqb, length, drop};
 ghost use Rattle.ie.specs.Ie.{pair_at, is_vendor, listed, record_of, refused, read, envelope, row_of, ies, ours, refused_at, read_all, filled, tabled};
 ghost use Rattle.ie.specs.Steps.{IsWhole, short, payload_test, vendor_tests, counted, fits};
@@ -6,7 +8,7 @@ ghost use Rattle.ie.specs.Steps.{IsWhole, short, payload_test, vendor_tests, cou
 use answer::Answer;
 
 // An IE: its raw type and enterprise number, and the place, from the IE's start on, and length of its payload.
-#[derive(Drop)]
+#[derive(Clone, Copy)]
 pub struct Ie {
     pub raw_type: u16,
     pub enterprise_id: u32,
@@ -15,7 +17,7 @@ pub struct Ie {
 }
 
 // What reading one IE answers: used is where it ends. The record is empty where it is refused.
-#[derive(Drop)]
+#[derive(Clone, Copy)]
 pub struct IeRead {
     pub answer: Answer,
     pub used: usize,
@@ -26,7 +28,7 @@ pub struct IeRead {
 pub type Row = [u32; 4];
 
 // What reading all IEs of a body answers: how many rows there are, and the place of the guilty IE where it is refused.
-#[derive(Drop)]
+#[derive(Clone, Copy)]
 pub struct IesRead {
     pub answer: Answer,
     pub rows: usize,
@@ -34,14 +36,14 @@ pub struct IesRead {
 }
 
 // Where the IE at the front of a slice ends, or why it is refused.
-#[derive(Drop)]
+#[derive(Clone, Copy)]
 pub enum Envelope {
     Whole { end: usize },
     Refused { answer: Answer },
 }
 
 // How many IEs a body has, or which one is guilty.
-#[derive(Drop)]
+#[derive(Clone, Copy)]
 pub enum Counted {
     All { rows: usize },
     Guilty { place: usize, answer: Answer },

@@ -1,5 +1,7 @@
 // Record images: what a read or a write hands over to C and Rust, in lent bytes of a fixed layout. Every number takes eight bytes,
 // least significant first, which the compiler joins into one store.
+#![tactic(auto)]
+
 ghost use Rattle.std.specs.Prelude.{◌≡◌, ◌∷◌, [], ◌&&◌, ◌+◌, ◌*◌, get_or, leb};
 ghost use Rattle.answer.specs.declared.Answer.TheVariants.{Short, Flags};
 ghost use Rattle.answer.specs.Paper.{number_of};
@@ -64,7 +66,7 @@ pub fn u64_at(image: &[u8], at: usize) -> u64
     ensures { result ≡ number_at image.now at }
 {
     let mut bs = [0u8; 8];
-    bytes::copy(texts::part(image, at, 8), &mut bs);
+    slices::copy(texts::part(image, at, 8), &mut bs);
     from_little_endian(bs[0], bs[1], bs[2], bs[3], bs[4], bs[5], bs[6], bs[7])
 }
 

@@ -1,4 +1,6 @@
 // Lines in a buffer that is read into piece by piece.
+#![tactic(auto)]
+
 ghost use Rattle.std.specs.Prelude.{◌≡◌, ◌+◌, ◌-◌, ◌≤◌, min, length};
 ghost use Rattle.octets.specs.Octets.{field, put};
 

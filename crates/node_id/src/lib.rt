@@ -1,4 +1,6 @@
 // The Node ID payload: an address or a name.
+#![tactic(auto)]
+
 ghost use Rattle.std.specs.Prelude.{◌≡◌, [], ◌∷◌, ◌<◌, length};
 ghost use Rattle.kind.specs.Layout.{clear};
 ghost use Rattle.kind.specs.Write.{too_long_output, answered, stored};
@@ -8,7 +10,7 @@ use answer::{Answer, Written};
 use octets::{MaybeIpv4, MaybeIpv6};
 use texts::Text;
 
-#[derive(Drop)]
+#[derive(Clone, Copy)]
 pub enum NodeIdType {
     Ipv4,
     Ipv6,
@@ -16,7 +18,7 @@ pub enum NodeIdType {
 }
 
 // The kind says which of the other fields counts; the name is a place in a lent slice, the payload itself after reading.
-#[derive(Drop)]
+#[derive(Clone, Copy)]
 pub struct NodeId {
     pub kind: NodeIdType,
     pub ipv4_address: [u8; 4],
@@ -25,7 +27,7 @@ pub struct NodeId {
 }
 
 // What reading a payload answers; the record is empty where it is refused.
-#[derive(Drop)]
+#[derive(Clone, Copy)]
 pub struct NodeIdRead {
     pub answer: Answer,
     pub used: usize,

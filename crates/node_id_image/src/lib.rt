@@ -1,4 +1,6 @@
 // The Node ID in a record image.
+#![tactic(auto)]
+
 ghost use Rattle.std.specs.Prelude.{◌≡◌, ◌≤◌, ◌<◌, length, ◌++◌};
 ghost use Rattle.answer.specs.declared.Answer.TheVariants.{Done};
 ghost use Rattle.answer.specs.Paper.{number_of};

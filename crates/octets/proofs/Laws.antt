@@ -611,7 +611,7 @@ unfolding big_endian_bytes
 over_none d at zero x h = over_nil d at
 over_none d at (suc w) x h = absurd (not-suc-le-zero h)
 
--- ---- what `bytes::copy` leaves
+-- ---- what `slices::copy` leaves
 -- of a whole destination, as long as the source
 pub copy_whole : (src dst last : List ℕ) → length src ≡ length dst → last ≡ take (length src) src ++ drop (length src) dst → last ≡ src
 copy_whole src dst last e h =

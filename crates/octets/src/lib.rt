@@ -1,35 +1,37 @@
 // Bytes as flags, numbers and addresses, and bytes put into an output. Every call is total: bytes that don't fit aren't put.
+#![tactic(auto)]
+
 ghost use Rattle.std.specs.Prelude.{◌≡◌, ◌∷◌, [], true, ◌&&◌, ◌||◌, ◌+◌, ◌-◌, ◌*◌, ◌/◌, ◌%◌, ◌≤◌, ◌<◌, ◌^◌, length, get_or, replicate, leb};
 ghost use Rattle.octets.specs.Octets.{pick, bit, if_set, flag_byte, big_endian, big_endian_bytes, is_number, ipv4_of, ipv6_of, u8_of, u16_of, u32_of, presence, ipv4_meaning, ipv6_meaning, bytes_if, number_if, put};
 
 // An IPv4 address that may be absent.
-#[derive(Drop)]
+#[derive(Clone, Copy)]
 pub struct MaybeIpv4 {
     pub given: bool,
     pub octets: [u8; 4],
 }
 
 // An IPv6 address that may be absent.
-#[derive(Drop)]
+#[derive(Clone, Copy)]
 pub struct MaybeIpv6 {
     pub given: bool,
     pub octets: [u8; 16],
 }
 
 // Numbers that may be absent.
-#[derive(Drop)]
+#[derive(Clone, Copy)]
 pub struct MaybeU8 {
     pub given: bool,
     pub value: u8,
 }
 
-#[derive(Drop)]
+#[derive(Clone, Copy)]
 pub struct MaybeU16 {
     pub given: bool,
     pub value: u16,
 }
 
-#[derive(Drop)]
+#[derive(Clone, Copy)]
 pub struct MaybeU32 {
     pub given: bool,
     pub value: u32,
@@ -170,7 +172,7 @@ impl MaybeIpv4 {
                 octets,
             };
         }
-        bytes::copy(bs, &mut octets);
+        slices::copy(bs, &mut octets);
         MaybeIpv4 {
             given: true,
             octets,
@@ -204,7 +206,7 @@ impl MaybeIpv6 {
                 octets,
             };
         }
-        bytes::copy(bs, &mut octets);
+        slices::copy(bs, &mut octets);
         MaybeIpv6 {
             given: true,
             octets,
@@ -301,7 +303,7 @@ pub fn put_bytes(out: &mut [u8], at: usize, bs: &[u8])
     if out.len() - bs.len() < at {
         return;
     }
-    bytes::copy(bs, &mut out[at..]);
+    slices::copy(bs, &mut out[at..]);
 }
 
 // Puts a byte at a place.

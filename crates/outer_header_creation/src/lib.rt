@@ -1,4 +1,6 @@
 // The Outer Header Creation payload: which outer header a forwarded packet gets.
+#![tactic(auto)]
+
 ghost use Rattle.std.specs.Prelude.{◌≡◌, ◌≤◌, length};
 ghost use Rattle.octets.specs.Octets.{put};
 ghost use Rattle.answer.specs.declared.Answer.TheVariants.{Short};
@@ -12,7 +14,7 @@ use octets::{MaybeIpv4, MaybeIpv6, MaybeU16, MaybeU32};
 use types::{MaybeTeid, Teid};
 
 // What the outer header is to have.
-#[derive(Drop)]
+#[derive(Clone, Copy)]
 pub struct OuterHeaderCreationFlags {
     pub gtpu_udp_ipv4: bool,
     pub gtpu_udp_ipv6: bool,
@@ -24,7 +26,7 @@ pub struct OuterHeaderCreationFlags {
     pub stag: bool,
 }
 
-#[derive(Drop)]
+#[derive(Clone, Copy)]
 pub struct OuterHeaderCreation {
     pub description: OuterHeaderCreationFlags,
     pub teid: MaybeTeid,
@@ -36,7 +38,7 @@ pub struct OuterHeaderCreation {
 }
 
 // What reading a payload answers; the record is empty where it is refused.
-#[derive(Drop)]
+#[derive(Clone, Copy)]
 pub struct OuterHeaderCreationRead {
     pub answer: Answer,
     pub used: usize,
@@ -44,7 +46,7 @@ pub struct OuterHeaderCreationRead {
 }
 
 // Which of the fields are in a payload, or in a written form.
-#[derive(Drop)]
+#[derive(Clone, Copy)]
 pub struct SentFields {
     pub teid: bool,
     pub ipv4: bool,
@@ -55,7 +57,7 @@ pub struct SentFields {
 }
 
 // Where each field ends.
-#[derive(Drop)]
+#[derive(Clone, Copy)]
 pub struct FieldEnds {
     pub teid: usize,
     pub ipv4: usize,

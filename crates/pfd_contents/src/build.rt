@@ -8,7 +8,7 @@ use answer::Answer;
 use text_fields::{MaybeText, TextList};
 
 // The fields of a record to be. Which of them are present makes its flags.
-#[derive(Drop)]
+#[derive(Clone, Copy)]
 pub struct PfdContentsBuilder {
     flow_description: MaybeText,
     url: MaybeText,
@@ -21,14 +21,14 @@ pub struct PfdContentsBuilder {
 }
 
 // What adding an entry answers; the builder is as before where it is refused.
-#[derive(Drop)]
+#[derive(Clone, Copy)]
 pub struct PfdContentsAdded {
     pub answer: Answer,
     pub builder: PfdContentsBuilder,
 }
 
 // What a build answers; the record is empty where it is refused.
-#[derive(Drop)]
+#[derive(Clone, Copy)]
 pub struct PfdContentsBuilt {
     pub answer: Answer,
     pub record: PfdContents,

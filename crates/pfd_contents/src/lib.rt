@@ -1,5 +1,7 @@
 // The PFD Contents payload: texts that may be absent and lists of texts, each by its place in a lent slice, the payload itself
 // after reading.
+#![tactic(auto)]
+
 mod build;
 mod read;
 mod write;
@@ -9,7 +11,7 @@ pub use read::PfdContentsRead;
 pub use text_fields::{MaybeText, TextList};
 
 // The flags stand whole; what is present is said by the fields, not by the flags.
-#[derive(Drop)]
+#[derive(Clone, Copy)]
 pub struct PfdContents {
     pub flags: u8,
     pub flow_description: MaybeText,

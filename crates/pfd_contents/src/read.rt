@@ -7,7 +7,7 @@ use answer::Answer;
 use text_fields::{MaybeText, TextList, Walk};
 
 // What reading a payload answers; the record is empty where it is refused.
-#[derive(Drop)]
+#[derive(Clone, Copy)]
 pub struct PfdContentsRead {
     pub answer: Answer,
     pub used: usize,

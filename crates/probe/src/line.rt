@@ -15,7 +15,7 @@ const PLAIN: usize = 131202;
 pub(crate) const LONGEST: usize = PLAIN + 1;
 
 // The letter of a line, and how many bytes its payload has.
-#[derive(Drop)]
+#[derive(Clone, Copy)]
 struct Asked {
     letter: u8,
     len: usize,

@@ -1,4 +1,6 @@
 // Answers each line of the standard input, a letter and a payload in hex, by a row with every detail.
+#![tactic(auto)]
+
 mod line;
 
 use lines::left;

@@ -1,7 +1,7 @@
 -- Worked examples: the definitions at some rows, computed. No contract cites this file.
 use mathlib.Core.Path.{◌≡◌, refl}
 use mathlib.Core.List.{[], ◌∷◌}
-use Rattle.bytes.specs.Bytes.{index_after, index_of}
+use Rattle.slices.specs.Slices.{index_after, index_of}
 use Rattle.octets.specs.Octets.{behind, big_endian_bytes, over, put}
 use Rattle.hex_text.specs.Hex.{digit, spelled, tens, decimal}
 use Rattle.rows.specs.Values.{absent, nothing, count_value, signed_value, hex_value, part_value, text_value, list_value}

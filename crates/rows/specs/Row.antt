@@ -1,7 +1,7 @@
 -- A row of text: words, with values among them. It is put piece by piece, one piece behind the other.
 use Rattle.std.specs.Prelude.{ℕ, zero, suc, ◌+◌, ◌-◌, ◌%◌, min, List, [], ◌∷◌, ◌++◌, eqb, length, take, drop, get_or}
 use Rattle.octets.specs.Octets.{pick, field, big_endian, big_endian_bytes, put}
-use Rattle.bytes.specs.Bytes.{index_of}
+use Rattle.slices.specs.Slices.{index_of}
 use Rattle.hex_text.specs.Hex.{spelled, decimal}
 use Rattle.rows.specs.Values.{nothing}
 

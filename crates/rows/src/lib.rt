@@ -1,9 +1,11 @@
 // What the programs share: the next line of the input, and rows of text and values.
+#![tactic(auto)]
+
 mod form;
 pub mod stream;
 
 ghost use Rattle.std.specs.Prelude.{◌≡◌, suc, ◌+◌, ◌≤◌, min, length, drop, get_or};
-ghost use Rattle.bytes.specs.Bytes.{index_of};
+ghost use Rattle.slices.specs.Slices.{index_of};
 ghost use Rattle.octets.specs.Octets.{pick, if_set, big_endian};
 ghost use Rattle.rows.specs.Values.{absent, nothing, count_value, signed_value, integer_value, hex_value, ipv6_value, part_value, text_value, list_value};
 ghost use Rattle.rows.specs.Row.{pieces, other, numbered, ends, puts};
@@ -131,7 +133,7 @@ fn line_end(words: &[u8], from: usize) -> usize
     ensures upper_bound { result ≤ length words.now }
 {
     least(
-        after(bytes::scan::find(words, from, words.len(), b'\n'), 1),
+        after(slices::find(words, from, words.len(), b'\n'), 1),
         words.len(),
     )
 }
@@ -167,7 +169,7 @@ pub fn put(out: &mut [u8], at: usize, words: &[u8], values: &[Value], slice: &[u
     let mut from = 0;
     let mut i = 0;
     loop {
-        let to = bytes::scan::find(words, from, words.len(), b'#');
+        let to = slices::find(words, from, words.len(), b'#');
         end = form::words(out, end, texts::part(words, from, to - from));
         if to == words.len() {
             return end;

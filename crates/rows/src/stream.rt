@@ -5,7 +5,7 @@ use libc::{STDIN_FILENO, STDOUT_FILENO};
 use lines::{after, least, left};
 
 // Where a program stands in its input and its output.
-#[derive(Drop)]
+#[derive(Clone, Copy)]
 pub struct Stream {
     // Whether there may be lines yet, and bytes to read.
     pub is_open: bool,
@@ -33,7 +33,7 @@ fn write(output: &[u8], ready: usize) -> bool {
 }
 
 // Where the input ends after a read, and whether that failed.
-#[derive(Drop)]
+#[derive(Clone, Copy)]
 struct Got {
     end: usize,
     failed: bool,
@@ -83,7 +83,7 @@ impl Stream {
     {
         let stream = self.behind_line();
         let loaded = least(stream.loaded, input.len());
-        let to = bytes::scan::find(input, least(stream.to, loaded), loaded, b'\n');
+        let to = slices::find(input, least(stream.to, loaded), loaded, b'\n');
         if to < loaded {
             return stream.with_line(to, output, row);
         }

@@ -1,4 +1,6 @@
 // UTF-8, checked against the table of its well-formed sequences.
+#![tactic(auto)]
+
 ghost use Rattle.std.specs.Prelude.{◌≡◌, true, cond, [], ◌+◌, ◌-◌, ◌<◌, ◌≤◌, min, max, length, drop, get_or, eqb};
 ghost use Rattle.text.specs.Utf8.{◌to◌, within, rows, agree, seq_len, good_len, best, bad_len, checked};
 ghost use Rattle.text.specs.Steps.{range_at, ranges, row_for, Ascii, Passed};
@@ -6,7 +8,7 @@ ghost use Rattle.text.specs.Steps.{range_at, ranges, row_for, Ascii, Passed};
 // A row of Table 3-7 of the Unicode Standard: the least and the greatest first byte, the least and
 // the greatest second, where there is one, and how many bytes there are. A third and a fourth are
 // from 0x80 to 0xBF in every row.
-#[derive(Drop)]
+#[derive(Clone, Copy)]
 struct Row(u8, u8, u8, u8, usize);
 
 const ROWS: [Row; 9] = [
@@ -357,7 +359,7 @@ pub fn bad_length(text: &[u8], good: usize) -> usize
 
 // What is good of a text, and how many bytes after that are bad: none where the text is good, or
 // ends inside a sequence.
-#[derive(Drop)]
+#[derive(Clone, Copy)]
 pub struct Checked {
     pub good: usize,
     pub bad: usize,

@@ -7,7 +7,7 @@ use crate::fields::Field;
 use answer::Answer;
 
 // What adding an entry answers; the list is as before where it is refused.
-#[derive(Drop)]
+#[derive(Clone, Copy)]
 pub struct ListAdded {
     pub answer: Answer,
     pub list: TextList,

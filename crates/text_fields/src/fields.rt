@@ -5,7 +5,7 @@ ghost use Rattle.text_fields.specs.Fields.{field_at, entries, is_empty, is_list}
 use crate::{Fault, TextList};
 
 // What stands at a place: no field, a whole one with its text, or a faulty one.
-#[derive(Drop)]
+#[derive(Clone, Copy)]
 pub enum Field {
     Absent,
     Whole { place: usize, len: usize },
@@ -13,7 +13,7 @@ pub enum Field {
 }
 
 // The fields from a place on: how many, and the place behind the last; or the fault in one.
-#[derive(Drop)]
+#[derive(Clone, Copy)]
 pub enum Entries {
     Run { count: usize, next: usize },
     Broken(Fault),

@@ -1,4 +1,6 @@
 // Text fields, a two-byte length and UTF-8 text each, and runs of them: one step of a reader, one of a writer, one entry more.
+#![tactic(auto)]
+
 mod add;
 mod fields;
 mod read;
@@ -11,7 +13,7 @@ pub use add::ListAdded;
 use answer::Answer;
 
 // A text that may be absent: its place and its length.
-#[derive(Drop)]
+#[derive(Clone, Copy)]
 pub struct MaybeText {
     pub given: bool,
     pub place: usize,
@@ -19,7 +21,7 @@ pub struct MaybeText {
 }
 
 // A list of texts: the place and the byte length of a run of fields in wire form, and how many they are.
-#[derive(Drop)]
+#[derive(Clone, Copy)]
 pub struct TextList {
     pub place: usize,
     pub len: usize,
@@ -27,26 +29,26 @@ pub struct TextList {
 }
 
 // What is wrong with a field: it ends past the end, or its text isn't UTF-8 from a place on, where so many bytes are bad.
-#[derive(Drop)]
+#[derive(Clone, Copy)]
 pub enum Fault {
     Past { end: usize, len: usize },
     Garbled { place: usize, bad: usize },
 }
 
 // How far a reader has come: the place behind what it took, or the fault at which it stopped.
-#[derive(Drop)]
+#[derive(Clone, Copy)]
 pub enum Walk {
     At(usize),
     Stopped(Fault),
 }
 
-#[derive(Drop)]
+#[derive(Clone, Copy)]
 pub struct TextStep {
     pub walk: Walk,
     pub text: MaybeText,
 }
 
-#[derive(Drop)]
+#[derive(Clone, Copy)]
 pub struct ListStep {
     pub walk: Walk,
     pub list: TextList,

@@ -1,9 +1,11 @@
 // Texts as places in a lent slice.
+#![tactic(auto)]
+
 ghost use Rattle.std.specs.Prelude.{◌≡◌, take, drop};
 ghost use Rattle.texts.specs.Texts.{is_text, bytes_of_text};
 
 // A text: its place and its length in a slice that goes with it.
-#[derive(Drop)]
+#[derive(Clone, Copy)]
 pub struct Text {
     pub place: usize,
     pub len: usize,

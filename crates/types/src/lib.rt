@@ -1,20 +1,22 @@
 // Identifiers and sequence numbers, each a type of its own: one is never given where another is wanted.
+#![tactic(auto)]
+
 ghost use Rattle.std.specs.Prelude.{◌≡◌, ◌%◌, ◌^◌, true};
 
 // A tunnel endpoint identifier.
-#[derive(Drop)]
+#[derive(Clone, Copy)]
 pub struct Teid(pub u32);
 
 // A session endpoint identifier.
-#[derive(Drop)]
+#[derive(Clone, Copy)]
 pub struct Seid(pub u64);
 
 // A message's sequence number: 24 bits, held in 32.
-#[derive(Drop)]
+#[derive(Clone, Copy)]
 pub struct SequenceNumber(pub u32);
 
 // A tunnel endpoint identifier that may be absent.
-#[derive(Drop)]
+#[derive(Clone, Copy)]
 pub struct MaybeTeid {
     pub given: bool,
     pub value: Teid,

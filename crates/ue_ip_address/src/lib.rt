@@ -1,4 +1,6 @@
 // The UE IP Address payload: a user's addresses, or the choice of them left to the user plane.
+#![tactic(auto)]
+
 ghost use Rattle.std.specs.Prelude.{◌≡◌, length};
 ghost use Rattle.octets.specs.Octets.{put};
 ghost use Rattle.answer.specs.Paper.{written};
@@ -7,7 +9,7 @@ ghost use Rattle.ue_ip_address.specs.UeIpAddress.{breaks_rule1, breaks_rule2, br
 use answer::{Answer, Written};
 use octets::{MaybeIpv4, MaybeIpv6, MaybeU8};
 
-#[derive(Drop)]
+#[derive(Clone, Copy)]
 pub struct UeIpAddress {
     pub v4: bool,
     pub v6: bool,
@@ -23,7 +25,7 @@ pub struct UeIpAddress {
 }
 
 // What reading a payload answers; the record is empty where it is refused.
-#[derive(Drop)]
+#[derive(Clone, Copy)]
 pub struct UeIpAddressRead {
     pub answer: Answer,
     pub used: usize,

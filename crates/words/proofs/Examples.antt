@@ -2,7 +2,7 @@
 use mathlib.Core.Path.{◌≡◌, refl}
 use mathlib.Core.List.{[], ◌∷◌}
 use mathlib.Core.Option.{none, some}
-use Rattle.bytes.specs.Bytes.{index_after, index_of}
+use Rattle.slices.specs.Slices.{index_after, index_of}
 use Rattle.octets.specs.Octets.{behind, presence}
 use Rattle.hex_text.specs.Hex.{led, pairs, worth}
 use Rattle.words.specs.Words.{cut, words_of, same, place_of, key_of, value_of, are_digits, spells, decimal_of, hexadecimal_of, payload_of}

@@ -10,7 +10,7 @@ use lib.Dec.{eqb, leb, ltb}
 use lib.ListN.{length, take, drop, get_or, replicate, length-drop, drop_of_length-le}
 use lib.Seq.{take_all, take-length, drop-drop, drop-cons, append_snoc}
 use borrow.Author.Tests.{lt-ltb, le-ltb, ltb-true, ltb-false, le-leb, eq-eqb, ne_eqb, eqb-true, eqb-false, not-true, not-false}
-use Rattle.bytes.specs.Bytes.{slice, index_after, index_of}
+use Rattle.slices.specs.Slices.{slice, index_after, index_of}
 use Rattle.octets.specs.Octets.{pick, field, big_endian, presence, put}
 use Rattle.octets.proofs.Laws.{put_start}
 use Rattle.hex_text.specs.Hex.{digit, within, pairs, tens, decimal}

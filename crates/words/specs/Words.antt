@@ -1,7 +1,7 @@
 -- Words of a line, and what they say: keys, values, numbers, payloads.
 use Rattle.std.specs.Prelude.{ℕ, suc, ◌+◌, ◌-◌, ◌*◌, ◌^◌, Bool, true, false, ◌&&◌, List, [], ◌∷◌, ◌++◌, eqb, ltb, length, take, drop}
 use Rattle.std.proofs.Math.Option.{Option, none, some}
-use Rattle.bytes.specs.Bytes.{index_of}
+use Rattle.slices.specs.Slices.{index_of}
 use Rattle.octets.specs.Octets.{pick, big_endian, presence}
 use Rattle.hex_text.specs.Hex.{within, pairs}
 use Rattle.words.specs.declared.Parsed.{Parsed}

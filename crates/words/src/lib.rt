@@ -1,6 +1,8 @@
 // Words of a line, and what they say: keys, values, numbers, payloads.
+#![tactic(auto)]
+
 ghost use Rattle.std.specs.Prelude.{◌≡◌, [], suc, ◌-◌, ◌*◌, eqb, length, get_or};
-ghost use Rattle.bytes.specs.Bytes.{index_of};
+ghost use Rattle.slices.specs.Slices.{index_of};
 ghost use Rattle.octets.specs.Octets.{field, put};
 ghost use Rattle.hex_text.specs.Hex.{pairs};
 ghost use Rattle.words.specs.Words.{words_of, place_of, key_of, value_of, decimal_of, hexadecimal_of, as_parsed, payload_of, as_filled};
@@ -10,7 +12,7 @@ use lines::left;
 use octets::both;
 
 // A number; not good, and 0, where a text has none.
-#[derive(Drop)]
+#[derive(Clone, Copy)]
 pub struct Parsed {
     pub is_good: bool,
     pub value: u64,
@@ -24,7 +26,7 @@ impl Parsed {
 }
 
 // How many bytes of an output are a payload; not good, and 0, where a text is none.
-#[derive(Drop)]
+#[derive(Clone, Copy)]
 pub struct Filled {
     pub is_good: bool,
     pub len: usize,
@@ -44,7 +46,7 @@ pub fn index(list: &[u8], word: &[u8]) -> usize
     let mut count = 0;
     let mut at = 0;
     loop {
-        let end = bytes::scan::find(list, at, list.len(), b' ');
+        let end = slices::find(list, at, list.len(), b' ');
         if check::same(part(list, at, end), word) {
             return count;
         }
@@ -60,14 +62,14 @@ pub fn index(list: &[u8], word: &[u8]) -> usize
 pub fn head(line: &[u8]) -> &[u8]
     ensures { result.now ≡ get_or (words_of line.now) 0 [] }
 {
-    part(line, 0, bytes::scan::find(line, 0, line.len(), b' '))
+    part(line, 0, slices::find(line, 0, line.len(), b' '))
 }
 
 // The place behind a word's first `=`; one past its end where there is none.
 fn behind_sign(word: &[u8]) -> usize
     ensures { result ≡ suc (index_of 0x3D word.now) }
 {
-    bytes::scan::find(word, 0, word.len(), b'=') + 1
+    slices::find(word, 0, word.len(), b'=') + 1
 }
 
 // A word up to its first `=`, that sign too.

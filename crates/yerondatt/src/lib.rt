@@ -1,4 +1,6 @@
 // The functions that C and Rust link: each is the function that it calls, under a plain name.
+#![tactic(auto)]
+
 ghost use Rattle.std.specs.Prelude.{◌≡◌, cond};
 ghost use Rattle.image.specs.Image.{read_number, read_image, long_enough, write_number, write_output, write_report};
 ghost use Rattle.strict.specs.Strict as strict;
