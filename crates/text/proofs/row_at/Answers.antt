@@ -7,23 +7,13 @@ use lib.ListN.{length, get_or, get_or-map}
 use Rattle.text.specs.declared.Row.{Row}
 use Rattle.text.specs.Utf8.{Range, rows}
 use Rattle.text.specs.Steps.{trail, ranges}
-use Rattle.text.proofs.row_at.Statement.{statement}
-use Rattle.text.proofs.row_at.Tie as tie
+use Rattle.text.proofs.row_at.Goals as goal
 
 -- A row of the definition's table as the code's has it.
 coded : List Range → Row
 coded row = ((get_or row 0 trail).low, (get_or row 0 trail).high, (get_or row 1 trail).low, (get_or row 1 trail).high, length row)
 
-mul-result : tie.Need-overflow-mul-result
-mul-result c = search rules
-
-array-copy-out-result : tie.Need-array-copy-out-result
-array-copy-out-result c = search rules
-
 -- `ROWS` is `map coded rows`, and `map ranges` of it is `rows`: both are computed.
-returns : tie.Need-returns
+pub returns : goal.returns
 unfolding rows ranges coded
-returns c = sym (get_or-map ranges (map coded rows) c.before.args.k (0, 0, 0, 0, 0))
-
-pub row-at-spec : {M : Type 1} → statement M
-row-at-spec = tie.close (tie.spec mul-result array-copy-out-result returns)
+returns c = sym (get_or-map ranges (map coded rows) c.args.k (0, 0, 0, 0, 0))

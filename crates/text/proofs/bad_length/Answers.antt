@@ -1,0 +1,9 @@
+use borrow.Author.Rules.{rules}
+use Rattle.text.proofs.Laws.{nothing_bad, bad_behind}
+use Rattle.text.proofs.bad_length.Goals as goal
+
+pub returns-then-text-good : goal.returns-then-text-good
+returns-then-text-good c = search nothing_bad
+
+pub returns : goal.returns
+returns c = search bad_behind

@@ -1,0 +1,6 @@
+use borrow.Author.Rules.{rules}
+use Rattle.text.proofs.Laws.{checked_of}
+use Rattle.text.proofs.examine.Goals as goal
+
+pub returns : goal.returns
+returns c = search checked_of
