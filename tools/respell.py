@@ -50,7 +50,7 @@ def declared(text):
             inside = True
         elif line and not line.startswith(" "):
             inside = False
-        found = re.match(r"(?:  )?" + MARKS + r"(\S+)(?: (?:\{[^}]*\}|\([^)]*\)))* :", line)
+        found = re.match(r"(?:(?:  )?|(?:    |      )(?=pub ))" + MARKS + r"(\S+)(?: (?:\{[^}]*\}|\([^)]*\)))* :", line)
         if found and is_old(found.group(1)):
             (fields if inside and line.startswith("  ") else words).add(found.group(1))
     return words, fields
@@ -124,10 +124,10 @@ def main(look):
                 print(f"look: {path}: {word} becomes {names[word]}, which stands there {len(places)} times: {places[0]}")
         if not look:
             with open(path, "w", encoding="utf-8") as file:
-                law = LAWS.get(path.split("/")[1])
+                law = LAWS.get(path.split("/")[1]) if os.path.isdir(f"crates/{CRATE[0]}") else None
                 mine = {**names, law: snake(law) + "_law"} if law else names
                 file.write(renamed(text, mine, fields, kept, not path.endswith(".antt")))
-    if not look:
+    if not look and os.path.isdir(f"crates/{CRATE[0]}"):
         rename_crate(proofs + code + edits)
     print(f"{len(names)} words")
     return bad

@@ -47,11 +47,11 @@ module _ (from to : ℕ) (g : from ≤ 16777215) (h : to ≤ 16777215) where
     is-forward : r % 16777216 ≡ forward from to
     is-forward = omega arith
 
-    pub done-near : r % 16777216 < 8388608 → record { answer = Done; value = to_z w32 (r % 16777216) } ≡ distance from to
-    done-near k = done _ (steps (r % 16777216) (omega arith) ∙ sym (near (r % 16777216) k) ∙ ap (λ (f : ℕ). signed (ltb f 8388608) f) is-forward)
+    pub done_near : r % 16777216 < 8388608 → record { answer = Done; value = to_z w32 (r % 16777216) } ≡ distance from to
+    done_near k = done _ (steps (r % 16777216) (omega arith) ∙ sym (near (r % 16777216) k) ∙ ap (λ (f : ℕ). signed (ltb f 8388608) f) is-forward)
 
-    pub done-far : 8388608 ≤ r % 16777216 → record { answer = Done; value = to_z w32 (of_z w32 (to_z w32 (r % 16777216) -ℤ pos 16777216)) } ≡ distance from to
-    done-far k =
+    pub done_far : 8388608 ≤ r % 16777216 → record { answer = Done; value = to_z w32 (of_z w32 (to_z w32 (r % 16777216) -ℤ pos 16777216)) } ≡ distance from to
+    done_far k =
         done _
         (to_z-of_z w32 _ (back_fits r)
         ∙ ap (λ (z : ℤ). z -ℤ pos 16777216) (steps (r % 16777216) (omega arith))

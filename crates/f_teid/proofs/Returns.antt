@@ -13,7 +13,7 @@ use Rattle.octets.specs.declared.MaybeIpv6.{MaybeIpv6}
 use Rattle.octets.specs.Octets.{pick, bit, if_set, field, big_endian, ipv4_of, ipv6_of}
 use Rattle.octets.proofs.Laws.{if_set_le_law, number_field, number_below}
 use Rattle.kind.specs.Layout.{wanted}
-use Rattle.kind.proofs.Cases.{stop_long, stop-head, stop-rule, stop-field, all_there, width_if_set_law}
+use Rattle.kind.proofs.Cases.{stop_long, stop_head, stop_rule, stop_field, all_there, width_if_set_law}
 use Rattle.f_teid.specs.declared.FteidRead.{FteidRead}
 use Rattle.f_teid.specs.Fteid.{no_teid, no_ipv4, no_ipv6, fields, rule, layout, read, found, refused, chosen_record, concrete_record}
 use Rattle.f_teid.proofs.Laws.{chosen_ends, concrete_ends}
@@ -32,7 +32,7 @@ module _ (s : List ℕ) where
 
   pub no_flags : (r : FteidRead) → length s ≤ 65535 → length s < 1 → r ≡ refused (Short 0 1 (length s)) → r ≡ read s
   unfolding read found
-  no_flags r = stop-head found layout s r
+  no_flags r = stop_head found layout s r
 
   -- CHID without CH
   pub forbidden : (r : FteidRead) (ch chid : Bool) → length s ≤ 65535 → 0 < length s
@@ -43,7 +43,7 @@ module _ (s : List ℕ) where
       → r ≡ refused (Flags (get_or s 0 0) 4)
       → r ≡ read s
   unfolding read found if_set
-  forbidden r ch chid f a d e d' e' = stop-rule found layout s r f 4 a (rw (← d, e, ← d', e')) (λ z. omega arith)
+  forbidden r ch chid f a d e d' e' = stop_rule found layout s r f 4 a (rw (← d, e, ← d', e')) (λ z. omega arith)
 
 -- with CH
 module _ (s : List ℕ) (f : length s ≤ 65535) (ch : bit 2 (get_or s 0 0) ≡ true) (chid : Bool) (u : ℕ) (d : chid ≡ bit 3 (get_or s 0 0)) (e : u ≡ if_set chid 1) where
@@ -52,7 +52,7 @@ module _ (s : List ℕ) (f : length s ≤ 65535) (ch : bit 2 (get_or s 0 0) ≡ 
 
   pub no_choose_id : (r : FteidRead) → 0 < length s → length s < 1 + u → r ≡ refused (Short 5 (1 + u) (length s)) → r ≡ read s
   unfolding read found
-  no_choose_id r = stop-field found layout s r f (rw ch) 0 5 (bit 3 (get_or s 0 0)) 1 [] 1 (1 + u) (rw ch) refl (ap (λ (n : ℕ). 1 + n) w)
+  no_choose_id r = stop_field found layout s r f (rw ch) 0 5 (bit 3 (get_or s 0 0)) 1 [] 1 (1 + u) (rw ch) refl (ap (λ (n : ℕ). 1 + n) w)
 
   pub chosen : (v4 v6 : Bool) (x : ℕ) → v4 ≡ bit 0 (get_or s 0 0) → v6 ≡ bit 1 (get_or s 0 0) → 1 + u ≤ length s
       → x ≡ pick (leb (length (field s 1 (1 + u - 1))) 8) (big_endian (field s 1 (1 + u - 1))) 0
@@ -75,23 +75,23 @@ module _ (s : List ℕ) (f : length s ≤ 65535) (ch : bit 2 (get_or s 0 0) ≡ 
 
   pub no_teid_law : (r : FteidRead) → 0 < length s → length s < 5 → r ≡ refused (Short 0 5 (length s)) → r ≡ read s
   unfolding read found if_set
-  no_teid_law r = stop-field found layout s r f free 0 0 true 4 _ 1 5 asked refl refl
+  no_teid_law r = stop_field found layout s r f free 0 0 true 4 _ 1 5 asked refl refl
 
   module _ (v4 : Bool) (u4 : ℕ) (d4 : v4 ≡ bit 0 (get_or s 0 0)) (e4 : u4 ≡ if_set v4 4) where
     w4 : u4 ≡ if_set (bit 0 (get_or s 0 0)) 4
     w4 = width_if_set_law s 0 4 v4 u4 d4 e4
 
-    pub no-ipv4 : (r : FteidRead) → 5 ≤ length s → length s < 5 + u4 → r ≡ refused (Short 1 (5 + u4) (length s)) → r ≡ read s
+    pub no_ipv4_law : (r : FteidRead) → 5 ≤ length s → length s < 5 + u4 → r ≡ refused (Short 1 (5 + u4) (length s)) → r ≡ read s
     unfolding read found if_set
-    no-ipv4 r = stop-field found layout s r f free 1 1 _ 4 _ 5 (5 + u4) (ap (drop 1) asked) (rw asked) (ap (λ (u : ℕ). 5 + u) w4)
+    no_ipv4_law r = stop_field found layout s r f free 1 1 _ 4 _ 5 (5 + u4) (ap (drop 1) asked) (rw asked) (ap (λ (u : ℕ). 5 + u) w4)
 
     module _ (v6 : Bool) (u6 : ℕ) (d6 : v6 ≡ bit 1 (get_or s 0 0)) (e6 : u6 ≡ if_set v6 16) where
       w6 : u6 ≡ if_set (bit 1 (get_or s 0 0)) 16
       w6 = width_if_set_law s 1 16 v6 u6 d6 e6
 
-      pub no-ipv6 : (r : FteidRead) → 5 + u4 ≤ length s → length s < 5 + u4 + u6 → r ≡ refused (Short 2 (5 + u4 + u6) (length s)) → r ≡ read s
+      pub no_ipv6_law : (r : FteidRead) → 5 + u4 ≤ length s → length s < 5 + u4 + u6 → r ≡ refused (Short 2 (5 + u4 + u6) (length s)) → r ≡ read s
       unfolding read found if_set
-      no-ipv6 r = stop-field found layout s r f free 2 2 _ 16 _ (5 + u4) (5 + u4 + u6) (ap (drop 2) asked) (rw asked (omega (arith, w4))) (ap (λ (u : ℕ). 5 + u4 + u) w6)
+      no_ipv6_law r = stop_field found layout s r f free 2 2 _ 16 _ (5 + u4) (5 + u4 + u6) (ap (drop 2) asked) (rw asked (omega (arith, w4))) (ap (λ (u : ℕ). 5 + u4 + u) w6)
 
       -- with all the fields; n4 and n6 are the widths of the addresses as a reader states them
       pub whole : (x n4 n6 : ℕ) (a4 : MaybeIpv4) (a6 : MaybeIpv6) → 5 + u4 + u6 ≤ length s

@@ -11,7 +11,7 @@ use Rattle.octets.specs.declared.MaybeIpv4.{MaybeIpv4}
 use Rattle.octets.specs.declared.MaybeIpv6.{MaybeIpv6}
 use Rattle.octets.specs.Octets.{pick, bit, if_set, field, big_endian, ipv4_of, ipv6_of}
 use Rattle.octets.proofs.Laws.{number_field}
-use Rattle.kind.proofs.Cases.{stop_long, stop-head, stop-field, all_there, width_if_set_law}
+use Rattle.kind.proofs.Cases.{stop_long, stop_head, stop_field, all_there, width_if_set_law}
 use Rattle.fseid.specs.declared.FseidRead.{FseidRead}
 use Rattle.fseid.specs.Fseid.{layout, read, found, refused, record_of}
 
@@ -22,23 +22,23 @@ module _ (s : List ℕ) where
 
   pub no_head : (r : FseidRead) → length s ≤ 65535 → length s < 9 → r ≡ refused (Short 0 9 (length s)) → r ≡ read s
   unfolding read found
-  no_head r = stop-head found layout s r
+  no_head r = stop_head found layout s r
 
   module _ (f : length s ≤ 65535) (v4 : Bool) (u4 : ℕ) (d4 : v4 ≡ bit 1 (get_or s 0 0)) (e4 : u4 ≡ if_set v4 4) where
     w4 : u4 ≡ if_set (bit 1 (get_or s 0 0)) 4
     w4 = width_if_set_law s 1 4 v4 u4 d4 e4
 
-    pub no-ipv4 : (r : FseidRead) → 9 ≤ length s → length s < 9 + u4 → r ≡ refused (Short 1 (9 + u4) (length s)) → r ≡ read s
+    pub no_ipv4 : (r : FseidRead) → 9 ≤ length s → length s < 9 + u4 → r ≡ refused (Short 1 (9 + u4) (length s)) → r ≡ read s
     unfolding read found
-    no-ipv4 r = stop-field found layout s r f refl 0 1 _ 4 _ 9 (9 + u4) refl refl (ap (λ (u : ℕ). 9 + u) w4)
+    no_ipv4 r = stop_field found layout s r f refl 0 1 _ 4 _ 9 (9 + u4) refl refl (ap (λ (u : ℕ). 9 + u) w4)
 
     module _ (v6 : Bool) (u6 : ℕ) (d6 : v6 ≡ bit 0 (get_or s 0 0)) (e6 : u6 ≡ if_set v6 16) where
       w6 : u6 ≡ if_set (bit 0 (get_or s 0 0)) 16
       w6 = width_if_set_law s 0 16 v6 u6 d6 e6
 
-      pub no-ipv6 : (r : FseidRead) → 9 + u4 ≤ length s → length s < 9 + u4 + u6 → r ≡ refused (Short 2 (9 + u4 + u6) (length s)) → r ≡ read s
+      pub no_ipv6 : (r : FseidRead) → 9 + u4 ≤ length s → length s < 9 + u4 + u6 → r ≡ refused (Short 2 (9 + u4 + u6) (length s)) → r ≡ read s
       unfolding read found
-      no-ipv6 r = stop-field found layout s r f refl 1 2 _ 16 _ (9 + u4) (9 + u4 + u6) refl (omega (arith, w4)) (ap (λ (u : ℕ). 9 + u4 + u) w6)
+      no_ipv6 r = stop_field found layout s r f refl 1 2 _ 16 _ (9 + u4) (9 + u4 + u6) refl (omega (arith, w4)) (ap (λ (u : ℕ). 9 + u4 + u) w6)
 
       -- with all the fields; n4 and n6 are the widths of the addresses as a reader states them
       pub whole : (x n4 n6 : ℕ) (a4 : MaybeIpv4) (a6 : MaybeIpv6) → 9 + u4 + u6 ≤ length s

@@ -10,7 +10,7 @@ use Rattle.octets.proofs.Laws.{take_head, field_split, length_field, bytes_take,
 use Rattle.kind.specs.Layout.{clear}
 use Rattle.kind.specs.Kind.{Reads, Kind}
 use Rattle.kind.specs.Demand3.{Demand3, PrefixFree}
-use Rattle.kind.proofs.Demand3.{demand3, prefix-free}
+use Rattle.kind.proofs.Demand3.{demand3, prefix_free}
 use Rattle.kind.proofs.Fixed.{Follows, Fixed, fixed_by, accepted_whole, cut_length, kind_of, local_of}
 use Rattle.kind.proofs.Laws.{end, Alike, alike_field, alike_bit}
 use Rattle.header.specs.declared.Header.{Header}
@@ -100,7 +100,7 @@ pub demands : Demand3 kind
 demands = demand3 kind
 
 pub unlike : PrefixFree kind
-unlike = prefix-free kind (local_of fixed)
+unlike = prefix_free kind (local_of fixed)
 
 -- the written form of a value that was read has 8 bytes, or 16 with the SEID
 pub extent : {s : List ℕ} {v : Header} {n : ℕ} → Reads reader s v n → length (wire v) ≡ 8 + if_set (sent s) 8

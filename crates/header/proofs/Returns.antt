@@ -9,7 +9,7 @@ use lib.ListN.{length, get_or}
 use Rattle.answer.specs.declared.Answer.TheVariants.{Done, Short, InputTooLong}
 use Rattle.octets.specs.Octets.{pick, bit, if_set, flag_byte, field, big_endian}
 use Rattle.octets.proofs.Laws.{number_field}
-use Rattle.kind.proofs.Cases.{stop_long, stop-head, stop-field, all_there, width_if_set_law}
+use Rattle.kind.proofs.Cases.{stop_long, stop_head, stop_field, all_there, width_if_set_law}
 use Rattle.header.specs.declared.HeaderRead.{HeaderRead}
 use Rattle.header.specs.Header.{layout, read, found, refused, record_of, place}
 use Rattle.header.proofs.Laws.{two_halves}
@@ -21,20 +21,20 @@ module _ (s : List ℕ) where
 
   pub no_head : (r : HeaderRead) → length s ≤ 65535 → length s < 8 → r ≡ refused (Short 0 8 (length s)) → r ≡ read s
   unfolding read found
-  no_head r = stop-head found layout s r
+  no_head r = stop_head found layout s r
 
   -- u: how wide each half of the SEID is, 4 or 0
   module _ (f : length s ≤ 65535) (sent : Bool) (u : ℕ) (d : sent ≡ bit 0 (get_or s 0 0)) (e : u ≡ if_set sent 4) where
     w : u ≡ if_set (bit 0 (get_or s 0 0)) 4
     w = width_if_set_law s 0 4 sent u d e
 
-    pub no-first-half : (r : HeaderRead) → 8 ≤ length s → length s < 8 + u → r ≡ refused (Short 0 (8 + u) (length s)) → r ≡ read s
+    pub no_first_half : (r : HeaderRead) → 8 ≤ length s → length s < 8 + u → r ≡ refused (Short 0 (8 + u) (length s)) → r ≡ read s
     unfolding read found
-    no-first-half r = stop-field found layout s r f refl 0 0 _ 4 _ 8 (8 + u) refl refl (ap (λ (x : ℕ). 8 + x) w)
+    no_first_half r = stop_field found layout s r f refl 0 0 _ 4 _ 8 (8 + u) refl refl (ap (λ (x : ℕ). 8 + x) w)
 
-    pub no-second-half : (r : HeaderRead) → 8 + u ≤ length s → length s < 8 + u + u → r ≡ refused (Short 0 (8 + u + u) (length s)) → r ≡ read s
+    pub no_second_half : (r : HeaderRead) → 8 + u ≤ length s → length s < 8 + u + u → r ≡ refused (Short 0 (8 + u + u) (length s)) → r ≡ read s
     unfolding read found
-    no-second-half r = stop-field found layout s r f refl 1 0 _ 4 _ (8 + u) (8 + u + u) refl (omega (arith, w)) (ap (λ (x : ℕ). 8 + u + x) w)
+    no_second_half r = stop_field found layout s r f refl 1 0 _ 4 _ (8 + u) (8 + u + u) refl (omega (arith, w)) (ap (λ (x : ℕ). 8 + u + x) w)
 
     -- where the sequence number begins
     abbrev at : ℕ

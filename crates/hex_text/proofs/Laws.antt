@@ -167,9 +167,9 @@ module _ (text d₀ d : List ℕ) (i : ℕ) (p : Parsed text d₀ d i) where
         → Ends text d₀ d i
     parsed_bad x y ex ey q = stopped (omega arith) (turn ∙ led_bad _ _ _ (worth_small _) (worth_small _) (rw (ex, ey) at q))
 
-    pub parsed-more : (x y : ℕ) → x ≡ worth_or (get_or text (2 * i) 0) → y ≡ worth_or (get_or text (2 * i + 1) 0) → x * 16 + y ≤ 255
+    pub parsed_more : (x y : ℕ) → x ≡ worth_or (get_or text (2 * i) 0) → y ≡ worth_or (get_or text (2 * i + 1) 0) → x * 16 + y ≤ 255
         → Parsed text d₀ (set d i (x * 16 + y)) (i + 1)
-    parsed-more x y ex ey q =
+    parsed_more x y ex ey q =
         let j : i < length d = omega (arith, p.long) in
         let more = pairs (length d₀ - (i + 1)) (drop (2 * (i + 1)) text) in
         let made : pairs (length d₀ - i) (drop (2 * i) text) ≡ (x * 16 + y) ∷ more = rw (turn, ex, ey) (led_good _ _ more (rw (ex, ey) at q)) in

@@ -31,9 +31,9 @@ module _ (zs body : List ℕ) (table : Table) where
     unfolding read_all
     too_long q = rw (lt-leb _ _ long) q
 
-    pub too-long-left : table ≡ tabled zs body table
+    pub too_long_left : table ≡ tabled zs body table
     unfolding tabled
-    too-long-left = rw (lt-leb _ _ long)
+    too_long_left = rw (lt-leb _ _ long)
 
   module _ (small : length body ≤ 65535) {k : Counted} (e : k ≡ counted 0 (ies zs 0 body)) where
     module _ {place : ℕ} {a : Answer} (q : k ≡ Guilty place a) where
@@ -41,9 +41,9 @@ module _ (zs body : List ℕ) (table : Table) where
       unfolding read_all answered
       refused p = rw (le-leb _ _ small, is_guilty (ies zs 0 body) (sym e ∙ q)) p
 
-      pub refused-left : table ≡ tabled zs body table
+      pub refused_left : table ≡ tabled zs body table
       unfolding tabled filled
-      refused-left = rw (le-leb _ _ small, is_guilty (ies zs 0 body) (sym e ∙ q))
+      refused_left = rw (le-leb _ _ small, is_guilty (ies zs 0 body) (sym e ∙ q))
 
     module _ {n : ℕ} (q : k ≡ All n) where
       here : (rows : Table) × (ies zs 0 body ≡ all rows) × (length rows ≡ n)
@@ -53,9 +53,9 @@ module _ (zs body : List ℕ) (table : Table) where
       unfolding read_all answered
       no_room p h = rw (le-leb _ _ small, here.1, here.2, lt-leb _ _ h) p
 
-      pub no-room-left : length table < n → table ≡ tabled zs body table
+      pub no_room_left : length table < n → table ≡ tabled zs body table
       unfolding tabled filled
-      no-room-left h = rw (le-leb _ _ small, here.1, here.2, lt-leb _ _ h)
+      no_room_left h = rw (le-leb _ _ small, here.1, here.2, lt-leb _ _ h)
 
       pub has_room : n ≤ length table → fits (ies zs 0 body) (length table) ≡ true
       unfolding fits
@@ -65,6 +65,6 @@ module _ (zs body : List ℕ) (table : Table) where
       unfolding read_all answered
       done h = rw (le-leb _ _ small, here.1, here.2, le-leb _ _ h)
 
-    pub done-table : {last : Table} → last ≡ filled table (ies zs 0 body) → last ≡ tabled zs body table
+    pub done_table : {last : Table} → last ≡ filled table (ies zs 0 body) → last ≡ tabled zs body table
     unfolding tabled
-    done-table p = rw (le-leb _ _ small) p
+    done_table p = rw (le-leb _ _ small) p

@@ -38,21 +38,21 @@ module _ (zs s : List ℕ) where
     may : not (eqb (length_of s) 0) || listed (type_of s) zs ≡ m
     may = sym (c ∙ ap (λ (x : ℕ). not (eqb x 0) || listed t zs) b ∙ ap (λ (x : ℕ). not (eqb (length_of s) 0) || listed x zs) a)
 
-    pub zero-length : not m ≡ true → Refused ZeroLength ≡ envelope zs s
+    pub zero_length : not m ≡ true → Refused ZeroLength ≡ envelope zs s
     unfolding envelope
-    zero-length h = rw (le-leb _ _ head, may, not-true m h)
+    zero_length h = rw (le-leb _ _ head, may, not-true m h)
 
     module _ (ok : not m ≡ false) {v : Bool} (d : v ≡ is_vendor t) where
       v-is : is_vendor (type_of s) ≡ v
       v-is = sym (d ∙ ap is_vendor a)
 
-      pub by-vendor : v ≡ true → {r : Envelope} → r ≡ vendor_tests (length s) n → r ≡ envelope zs s
+      pub by_vendor : v ≡ true → {r : Envelope} → r ≡ vendor_tests (length s) n → r ≡ envelope zs s
       unfolding envelope if_set
-      by-vendor e q = rw (le-leb _ _ head, may, not-false m ok, v-is, e, ← b) q
+      by_vendor e q = rw (le-leb _ _ head, may, not-false m ok, v-is, e, ← b) q
 
-      pub by-other : v ≡ false → {r : Envelope} → r ≡ payload_test (length s) n → r ≡ envelope zs s
+      pub by_other : v ≡ false → {r : Envelope} → r ≡ payload_test (length s) n → r ≡ envelope zs s
       unfolding envelope if_set
-      by-other e q = rw (le-leb _ _ head, may, not-false m ok, v-is, e, le-leb _ _ head, ← b, le-leb 0 n (omega arith)) q
+      by_other e q = rw (le-leb _ _ head, may, not-false m ok, v-is, e, le-leb _ _ head, ← b, le-leb 0 n (omega arith)) q
 
 -- the last tests
 module _ (n m : ℕ) where
@@ -121,13 +121,13 @@ module _ (zs s : List ℕ) where
   too_long q h = rw (lt-leb _ _ h) q
 
   module _ (small : length s ≤ 65535) {o : Envelope} (p : o ≡ envelope zs s) where
-    pub refused-one : {a : Answer} {r : IeRead} → o ≡ Refused a → r ≡ refused a → r ≡ read zs s
+    pub refused_one : {a : Answer} {r : IeRead} → o ≡ Refused a → r ≡ refused a → r ≡ read zs s
     unfolding read found
-    refused-one q e = let z = sym p ∙ q in rw (le-leb _ _ small, z) e
+    refused_one q e = let z = sym p ∙ q in rw (le-leb _ _ small, z) e
 
-    pub found-one : {end : ℕ} {ie : Ie} → o ≡ Whole end → ie ≡ record_of s → record { answer = Done; used = end; «record» = ie } ≡ read zs s
+    pub found_one : {end : ℕ} {ie : Ie} → o ≡ Whole end → ie ≡ record_of s → record { answer = Done; used = end; «record» = ie } ≡ read zs s
     unfolding read found
-    found-one q e = let z = sym p ∙ q in rw (le-leb _ _ small, z, e)
+    found_one q e = let z = sym p ∙ q in rw (le-leb _ _ small, z, e)
 
 -- ---- the record of a whole IE
 
@@ -147,13 +147,13 @@ module _ (s : List ℕ) (at : ℕ) (w : IsWhole (drop at s)) where
       pub number_there : at + 4 + 2 ≤ length s
       number_there = omega (arith, w.0, length-drop at s, two-more)
 
-      pub counts-it : 2 ≤ n
-      counts-it = omega (arith, w.1, pair_drop s at 2, two-more, b)
+      pub counts_it : 2 ≤ n
+      counts_it = omega (arith, w.1, pair_drop s at 2, two-more, b)
 
-      pub vendor-record : {x : ℕ} → x ≡ pair_at s (at + 4) → record { raw_type = t; enterprise_id = x; place = 6; len = n - 2 } ≡ record_of (drop at s)
+      pub vendor_record : {x : ℕ} → x ≡ pair_at s (at + 4) → record { raw_type = t; enterprise_id = x; place = 6; len = n - 2 } ≡ record_of (drop at s)
       unfolding record_of if_set
-      vendor-record q = rw (v-at, e, type_drop s at, pair_drop s at 2, pair_drop s at 4, ← a, ← b, ← q)
+      vendor_record q = rw (v-at, e, type_drop s at, pair_drop s at 2, pair_drop s at 4, ← a, ← b, ← q)
 
-    pub other-record : v ≡ false → record { raw_type = t; enterprise_id = 65536; place = 4; len = n } ≡ record_of (drop at s)
+    pub other_record : v ≡ false → record { raw_type = t; enterprise_id = 65536; place = 4; len = n } ≡ record_of (drop at s)
     unfolding record_of if_set
-    other-record e = let z : n - 0 ≡ n = omega arith in rw (v-at, e, type_drop s at, pair_drop s at 2, ← a, ← b, z)
+    other_record e = let z : n - 0 ≡ n = omega arith in rw (v-at, e, type_drop s at, pair_drop s at 2, ← a, ← b, z)

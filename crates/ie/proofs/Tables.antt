@@ -88,8 +88,8 @@ module _ (zs s : List ℕ) (at : ℕ) (table : Table) (i : ℕ) {last : Table} (
       ends-here : ie.place + ie.len ≡ here.0
       ends-here = ap (λ (x : Ie). x.place + x.len) e ∙ record_ends (drop at s) is_whole ∙ (inside zs s at lt here.1 refl).1
 
-      pub fill-bounds : (4 ≤ ie.place + ie.len) × (at + (ie.place + ie.len) ≤ length s)
-      fill-bounds = let w = inside zs s at lt here.1 refl in (omega (arith, ends-here, w.1), omega (arith, ends-here, w.2))
+      pub fill_bounds : (4 ≤ ie.place + ie.len) × (at + (ie.place + ie.len) ≤ length s)
+      fill_bounds = let w = inside zs s at lt here.1 refl in (omega (arith, ends-here, w.1), omega (arith, ends-here, w.2))
 
       pub fill_step : {row : List ℕ} → row ≡ row_of at ie → Left zs s (at + (ie.place + ie.len)) (set table i row) (i + 1) last
       fill_step {row} q =

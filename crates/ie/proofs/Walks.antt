@@ -86,13 +86,13 @@ module _ (zs s : List ℕ) (at n : ℕ) {total : Counted} (inv : counted n (ies 
     e : o ≡ envelope zs (drop at s)
     e = lent ∙ ap (envelope zs) (take_all (length s - at) (drop at s) (omega (arith, length-drop at s)))
 
-    pub count-stop : {a : Answer} → o ≡ Refused a → Guilty at a ≡ total
+    pub count_stop : {a : Answer} → o ≡ Refused a → Guilty at a ≡ total
     unfolding counted
-    count-stop q = rw (stopped zs s at lt e q) at inv
+    count_stop q = rw (stopped zs s at lt e q) at inv
 
     module _ {end : ℕ} (q : o ≡ Whole end) where
       pub passed : (4 ≤ end) × (at + end ≤ length s)
       passed = let w = inside zs s at lt e q in (omega (arith, w.1), w.2)
 
-      pub count-step : counted (n + 1) (ies zs (at + end) (drop (at + end) s)) ≡ total
-      count-step = counted_before n _ _ ∙ (rw (stepped zs s at lt e q) at inv)
+      pub count_step : counted (n + 1) (ies zs (at + end) (drop (at + end) s)) ≡ total
+      count_step = counted_before n _ _ ∙ (rw (stepped zs s at lt e q) at inv)

@@ -183,9 +183,9 @@ image_left size {bytes = bytes} i a n d room =
 module _ (k : Kind) (size : ℕ) (left form : List ℕ → List ℕ → List ℕ) (writes : List ℕ → List ℕ → List ℕ → Written) (stores : List ℕ → List ℕ → List ℕ → List ℕ) where
   pub record Again : Type 0 where
     -- the form is the cleared payload
-    pub written-again : {s : List ℕ} {v : k.Value} {n : ℕ} → Reads k.reader s v n → (d : List ℕ) → size ≤ length d → form (left s d) s ≡ k.clear (take n s)
+    pub written_again : {s : List ℕ} {v : k.Value} {n : ℕ} → Reads k.reader s v n → (d : List ℕ) → size ≤ length d → form (left s d) s ≡ k.clear (take n s)
     -- with room for it the write is done, it stores just that, and no byte behind it changes
-    pub stored-again : {s : List ℕ} {v : k.Value} {n : ℕ} → Reads k.reader s v n → (d : List ℕ) → size ≤ length d → (out : List ℕ) → length (k.wire v) ≤ length out
+    pub stored_again : {s : List ℕ} {v : k.Value} {n : ℕ} → Reads k.reader s v n → (d : List ℕ) → size ≤ length d → (out : List ℕ) → length (k.wire v) ≤ length out
         → (writes (left s d) s out ≡ record { answer = Done; len = length (k.wire v) })
         × (take (length (k.wire v)) (stores (left s d) s out) ≡ k.clear (take n s))
         × (drop (length (k.wire v)) (stores (left s d) s out) ≡ drop (length (k.wire v)) out)
@@ -197,8 +197,8 @@ module _ (k : Kind) (size : ℕ) (left form : List ℕ → List ℕ → List ℕ
       → Again
   again same wrote =
       record {
-        written-again = λ r d room. same _ _ _ r d room ∙ k.written r;
-        stored-again = λ r d room out h.
+        written_again = λ r d room. same _ _ _ r d room ∙ k.written r;
+        stored_again = λ r d room out h.
             let (p, q) = wrote _ _ _ r d room out in
             let (just, behind) = (demand3 k).stored r out h in
             rw (p, q, same _ _ _ r d room) (rw (le-leb _ _ h), just, behind);

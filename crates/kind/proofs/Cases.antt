@@ -21,17 +21,17 @@ module _ {Read : Type 0} (found : List ℕ → Outcome → Read) (l : Layout) (s
   stop_long h q = rw (too_long l s h) q
 
   module _ (fits : length s ≤ 65535) where
-    pub stop-head : length s < l.head → r ≡ found s (refuses (Short 0 l.head (length s))) → r ≡ found s (outcome l s)
-    stop-head h q = rw (too_short l s fits h) q
+    pub stop_head : length s < l.head → r ≡ found s (refuses (Short 0 l.head (length s))) → r ≡ found s (outcome l s)
+    stop_head h q = rw (too_short l s fits h) q
 
-    pub stop-rule : (k : ℕ) → l.head ≤ length s → l.rule (get_or s 0 0) ≡ k → (k ≡ 0 → ⊥) → r ≡ found s (refuses (Flags (get_or s 0 0) k)) → r ≡ found s (outcome l s)
+    pub stop_rule : (k : ℕ) → l.head ≤ length s → l.rule (get_or s 0 0) ≡ k → (k ≡ 0 → ⊥) → r ≡ found s (refuses (Flags (get_or s 0 0) k)) → r ≡ found s (outcome l s)
     unfolding unless_broken
-    stop-rule zero h e g q = absurd (g refl)
-    stop-rule (suc k) h e g q = rw (headed l s fits h, e) q
+    stop_rule zero h e g q = absurd (g refl)
+    stop_rule (suc k) h e g q = rw (headed l s fits h, e) q
 
     module _ (free : l.rule (get_or s 0 0) ≡ 0) where
       -- the fields before the k-th end at a place within the payload, and the k-th, which ends at e, isn't all there
-      pub stop-field : (k number : ℕ) (sent : Bool) (width : ℕ) (after : List Wanted) (at e : ℕ)
+      pub stop_field : (k number : ℕ) (sent : Bool) (width : ℕ) (after : List Wanted) (at e : ℕ)
           → drop k (l.fields (get_or s 0 0)) ≡ wanted number sent width ∷ after
           → at ≡ l.head + total (take k (l.fields (get_or s 0 0)))
           → e ≡ at + if_set sent width
@@ -39,7 +39,7 @@ module _ {Read : Type 0} (found : List ℕ → Outcome → Read) (l : Layout) (s
           → length s < e
           → r ≡ found s (refuses (Short number e (length s)))
           → r ≡ found s (outcome l s)
-      stop-field k number sent width after at e p a b h g q =
+      stop_field k number sent width after at e p a b h g q =
           rw (stops l s k number sent width after e p free fits (omega arith) (omega arith) g) q
 
       pub all_there : (e : ℕ) → e ≡ end l s → e ≤ length s → r ≡ found s (accepts e) → r ≡ found s (outcome l s)

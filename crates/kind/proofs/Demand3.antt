@@ -32,5 +32,5 @@ module _ (k : Kind) where
         let longer = l.more u (rw e at (back q).bytes) (rw e at (k.short (back q))) (back r) in
         sym longer.value ∙ ap k.reader.value (sym e) ∙ (back q).value
 
-    pub prefix-free : PrefixFree k
-    prefix-free = record { no_beginning = unlike }
+    pub prefix_free : PrefixFree k
+    prefix_free = record { no_beginning = unlike }

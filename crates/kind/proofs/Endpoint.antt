@@ -20,13 +20,13 @@ module _ (first w x : ℕ) (a4 : MaybeIpv4) (a6 : MaybeIpv6) where
     form_length =
         simp (length-append, length_big_endian_bytes_law, given_length a4.given 4 a4.octets l4, given_length a6.given 16 a6.octets l6) (omega arith)
 
-    pub form-row : (d d1 d2 d3 d4 : List ℕ)
+    pub form_row : (d d1 d2 d3 d4 : List ℕ)
         → d1 ≡ put d 0 (first ∷ [])
         → d2 ≡ put d1 1 (big_endian_bytes w x)
         → d3 ≡ put d2 (1 + w) (bytes_if (ipv4_meaning a4))
         → d4 ≡ put d3 (1 + w + u4) (bytes_if (ipv6_meaning a6))
         → Puts d 0 endpoint_wire d4
-    form-row d d1 d2 d3 d4 q1 q2 q3 q4 =
+    form_row d d1 d2 d3 d4 q1 q2 q3 q4 =
         then (first ∷ []) 1 q1 refl
         (then _ (1 + w) q2 (omega (arith, length_big_endian_bytes_law w x))
         (then _ (1 + w + u4) q3 (omega (arith, given_length a4.given 4 a4.octets l4))

@@ -88,8 +88,8 @@ module _ (s : List ℕ) (r : NodeIdRead) where
       unfolding read
       typed q = rw (le-leb _ _ f, le-leb _ _ h) q
 
-      pub of-type : (k : ℕ) → get_or s 0 0 ≡ k → r ≡ by_type k s → r ≡ read s
-      of-type k e q = typed (rw e q)
+      pub of_type : (k : ℕ) → get_or s 0 0 ≡ k → r ≡ by_type k s → r ≡ read s
+      of_type k e q = typed (rw e q)
 
 -- ---- the same under a mask of the first byte
 module _ (m : ℕ) (s : List ℕ) (r : NodeIdRead) where

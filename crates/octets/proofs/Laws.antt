@@ -560,16 +560,16 @@ module _ (bs : List ℕ) where
 
   -- so that what the stores leave is a put of the address
   module _ (d : List ℕ) (at : ℕ) where
-    pub four-put : (e : List ℕ) → length bs ≡ 4 → e ≡ put d at (four_from 0) → e ≡ put d at bs
-    four-put e l q = q ∙ ap (put d at) (four_whole l)
+    pub four_put : (e : List ℕ) → length bs ≡ 4 → e ≡ put d at (four_from 0) → e ≡ put d at bs
+    four_put e l q = q ∙ ap (put d at) (four_whole l)
 
-    pub sixteen-put : (d1 d2 d3 d4 : List ℕ) → length bs ≡ 16 → at + 16 ≤ length d
+    pub sixteen_put : (d1 d2 d3 d4 : List ℕ) → length bs ≡ 16 → at + 16 ≤ length d
         → d1 ≡ put d at (four_from 0)
         → d2 ≡ put d1 (at + 4) (four_from 4)
         → d3 ≡ put d2 (at + 8) (four_from 8)
         → d4 ≡ put d3 (at + 12) (four_from 12)
         → d4 ≡ put d at bs
-    sixteen-put d1 d2 d3 d4 l h q1 q2 q3 q4 =
+    sixteen_put d1 d2 d3 d4 l h q1 q2 q3 q4 =
         put_row (then (four_from 0) (at + 4) q1 refl (then (four_from 4) (at + 8) q2 (omega arith) (then (four_from 8) (at + 12) q3 (omega arith) (ends q4)))) h
         ∙ ap (put d at) (sixteen_whole l)
 

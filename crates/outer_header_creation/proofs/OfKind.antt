@@ -12,7 +12,7 @@ use Rattle.octets.proofs.Masks.{flags_low}
 use Rattle.kind.specs.Layout.{clear}
 use Rattle.kind.specs.Kind.{Reads, Kind}
 use Rattle.kind.specs.Demand3.{Demand3, PrefixFree}
-use Rattle.kind.proofs.Demand3.{demand3, prefix-free}
+use Rattle.kind.proofs.Demand3.{demand3, prefix_free}
 use Rattle.kind.proofs.Fixed.{Follows, Fixed, fixed_by, accepted_whole, cut_length, kind_of, local_of}
 use Rattle.kind.proofs.Laws.{total, end, Alike, alike_field, alike_bit}
 use Rattle.kind.proofs.Rows.{pieces, take_pieces}
@@ -124,7 +124,7 @@ pub demands : Demand3 kind
 demands = demand3 kind
 
 pub unlike : PrefixFree kind
-unlike = prefix-free kind (local_of fixed)
+unlike = prefix_free kind (local_of fixed)
 
 -- the shortest and the longest written form of a value that was read
 pub extent : {s : List ℕ} {v : Value} {n : ℕ} → Reads reader s v n → (layout.head ≤ length (wire v)) × (length (wire v) ≤ max_len)

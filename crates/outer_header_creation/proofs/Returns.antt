@@ -15,7 +15,7 @@ use Rattle.octets.specs.declared.MaybeU32.{MaybeU32}
 use Rattle.octets.specs.Octets.{field, ipv4_of, ipv6_of, u16_of, u32_of}
 use Rattle.kind.specs.Layout.{Outcome, accepts, refuses, walk, unless_broken, outcome}
 use Rattle.kind.proofs.Laws.{end, accepted, headed}
-use Rattle.kind.proofs.Cases.{stop_long, stop-head, all_there}
+use Rattle.kind.proofs.Cases.{stop_long, stop_head, all_there}
 use Rattle.outer_header_creation.specs.declared.SentFields.{SentFields}
 use Rattle.outer_header_creation.specs.declared.FieldEnds.{FieldEnds}
 use Rattle.outer_header_creation.specs.declared.OuterHeaderCreation.{OuterHeaderCreation}
@@ -46,7 +46,7 @@ module _ (s : List ℕ) where
 
   pub no_head : (r : OuterHeaderCreationRead) → length s ≤ 65535 → length s < 2 → r ≡ refused (Short 0 2 (length s)) → r ≡ read s
   unfolding read found
-  no_head r = stop-head found layout s r
+  no_head r = stop_head found layout s r
 
   -- by the flags, the fields that they ask for and their ends
   module _ (f : length s ≤ 65535) (d : Flags) (a : SentFields) (e : FieldEnds) (flags : d ≡ flags_of (get_or s 0 0)) (sent : a ≡ asked d) (ends : e ≡ ends_of a) where

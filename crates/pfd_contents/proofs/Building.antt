@@ -64,19 +64,19 @@ module _ (t : List ℕ) (b : PfdContentsBuilder) where
     e' : as_refusal n ≡ tested t (built_record b)
     e' = e ∙ ap (tested t) s
 
-    pub build-bad : (r : PfdContentsBuilt) → (n ≡ 0 → ⊥) → r ≡ unbuilt (BadText n) → r ≡ built t b
+    pub build_bad : (r : PfdContentsBuilt) → (n ≡ 0 → ⊥) → r ≡ unbuilt (BadText n) → r ≡ built t b
     unfolding built build_refusal built_by ◌then◌
-    build-bad r h q = rw (le-leb _ _ f, ← e', ne_eqb n 0 h) q
+    build_bad r h q = rw (le-leb _ _ f, ← e', ne_eqb n 0 h) q
 
     module _ (z : n ≡ 0) where
       flags-are : x.flags ≡ flag_byte (present b)
       unfolding built_record
       flags-are = ap (λ (y : PfdContents). y.flags) s
 
-      pub build-none : (r : PfdContentsBuilt) → x.flags ≡ 0 → r ≡ unbuilt (Unbuilt 6) → r ≡ built t b
+      pub build_none : (r : PfdContentsBuilt) → x.flags ≡ 0 → r ≡ unbuilt (Unbuilt 6) → r ≡ built t b
       unfolding built build_refusal built_by ◌then◌
-      build-none r h q = rw (le-leb _ _ f, ← e', eq-eqb n 0 z, none_set (present b) (sym flags-are ∙ h)) q
+      build_none r h q = rw (le-leb _ _ f, ← e', eq-eqb n 0 z, none_set (present b) (sym flags-are ∙ h)) q
 
-      pub build-done : (x.flags ≡ 0 → ⊥) → record { answer = Done; «record» = x } ≡ built t b
+      pub build_done : (x.flags ≡ 0 → ⊥) → record { answer = Done; «record» = x } ≡ built t b
       unfolding built build_refusal built_by ◌then◌
-      build-done h = rw (le-leb _ _ f, ← e', eq-eqb n 0 z, one_set (present b) (λ k. h (flags-are ∙ k)), ← s)
+      build_done h = rw (le-leb _ _ f, ← e', eq-eqb n 0 z, one_set (present b) (λ k. h (flags-are ∙ k)), ← s)

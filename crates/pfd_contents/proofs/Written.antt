@@ -65,11 +65,11 @@ module _ (t : List ℕ) (x : MaybeText) where
   none_width h = rw (no_text t x h)
 
   module _ (p : List ℕ) (h : not x.given ≡ false) (e : p ≡ take x.len (drop x.place t)) where
-    pub text-width : length p + 2 ≡ length (text_bytes t x)
-    text-width = rw (some_text t x p h e) (omega (arith, field_length p))
+    pub text_width : length p + 2 ≡ length (text_bytes t x)
+    text_width = rw (some_text t x p h e) (omega (arith, field_length p))
 
-    pub text-small : length t ≤ 65535 → length p + 2 ≤ 65537
-    text-small g = omega (arith, ap length e, length-take x.len (drop x.place t), length-drop x.place t)
+    pub text_small : length t ≤ 65535 → length p + 2 ≤ 65537
+    text_small g = omega (arith, ap length e, length-take x.len (drop x.place t), length-drop x.place t)
 
 module _ (t : List ℕ) (x : TextList) (p : List ℕ) (e : p ≡ take x.len (drop x.place t)) where
   pub list_width : length p ≡ length (run_bytes t x)

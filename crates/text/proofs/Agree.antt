@@ -147,8 +147,8 @@ module _ (text : List ℕ) (at : ℕ) (row : Row) (i n : ℕ) (is : n ≡ min ro
         let in-text : i < length (drop at text) = omega (arith, length-drop at text) in
         rw (known, agree_turn (ranges row) (drop at text) i in_row in-text, range_at_law row i (omega arith), get_or-drop at text i 0, test)
 
-    pub agreed-stop : not t ≡ true → i ≡ agree (ranges row) (drop at text)
-    agreed-stop e = rw (turn, not-true t e) (omega arith)
+    pub agreed_stop : not t ≡ true → i ≡ agree (ranges row) (drop at text)
+    agreed_stop e = rw (turn, not-true t e) (omega arith)
 
-    pub agreed-more : not t ≡ false → Agreed text at row (i + 1)
-    agreed-more e = rw (add-one, turn, not-false t e) (omega arith)
+    pub agreed_more : not t ≡ false → Agreed text at row (i + 1)
+    agreed_more e = rw (add-one, turn, not-false t e) (omega arith)

@@ -98,8 +98,8 @@ module _ (t : List ℕ) (l : TextList) (number at : ℕ) where
           let (x, y) = both_true _ _ (sym p ∙ b) in
           (a, x, y)
 
-      pub add-onward : at ≤ end
-      add-onward = omega (arith, entry_behind t at end e (eqb-false end 0 (not-true (eqb end 0) passed.1)))
+      pub add_onward : at ≤ end
+      add_onward = omega (arith, entry_behind t at end e (eqb-false end 0 (not-true (eqb end 0) passed.1)))
 
       module _ (b : Bool) (c : b ≡ is_empty l) where
         pub add-first : b ≡ true → record { answer = Done; list = run_of at end 1 } ≡ added number t l at
@@ -116,7 +116,7 @@ module _ (t : List ℕ) (l : TextList) (number at : ℕ) where
           unfolding is_behind
           add-place =
               let z : l.place + l.len ≡ at = eqb-true _ _ (rw (← c, n) at (sym d ∙ passed.2)) in
-              omega (arith, add-onward)
+              omega (arith, add_onward)
 
           pub add-count : l.count ≤ length t
           add-count = few t l (sym g ∙ passed.0) (sym c ∙ n)

@@ -19,7 +19,7 @@ use Rattle.text_fields.specs.declared.fields.Field.{Field}
 use Rattle.text_fields.specs.declared.fields.Field.TheVariants.{Absent, Whole, Faulty}
 use Rattle.text_fields.specs.declared.fields.Entries.{Entries}
 use Rattle.text_fields.specs.declared.fields.Entries.TheVariants.{Run, Broken}
-use Rattle.text_fields.proofs.Runs.{absent, whole-there, whole_end, whole_utf8, missing, along}
+use Rattle.text_fields.proofs.Runs.{absent, whole_there, whole_end, whole_utf8, missing, along}
 use Rattle.text_fields.proofs.Meant.{own, run_wire}
 
 -- t has n bytes, and those behind the first two are the beginning of s
@@ -53,7 +53,7 @@ module _ {n : ℕ} {s t : List ℕ} (c : Cut n s t) where
       (ap (λ (i : ℕ). take i (drop (at + 2) t)) (add-sub_cancel_left (at + 2) m)
       ∙ ap (λ (i : ℕ). field t i m) (sym w.0)
       ∙ c.alike p m (omega arith) k) in
-      sym (whole-there t at l (omega arith) refl (omega arith) (omega (arith, g))) ∙ ap (λ (i : ℕ). Whole i m) (sym w.0)
+      sym (whole_there t at l (omega arith) refl (omega arith) (omega (arith, g))) ∙ ap (λ (i : ℕ). Whole i m) (sym w.0)
 
   carry_absent : (at : ℕ) → field_at s at ≡ Absent → field_at t at ≡ Absent
   carry_absent at e = sym (absent t at (omega (arith, missing s at e, c.size, c.within)))

@@ -24,18 +24,18 @@ module _ (s : List ℕ) (w : Walk) (b : Bool) where
   list_after later fault k = rw k
 
   module _ (at : ℕ) (k : w ≡ At at) (on : Bool) (e : on ≡ b) where
-    pub text-off : not on ≡ true → record { walk = At at; text = no_text } ≡ text_step s w b
+    pub text_off : not on ≡ true → record { walk = At at; text = no_text } ≡ text_step s w b
     unfolding text_step text
-    text-off h = rw (k, ← e, not-true on h)
+    text_off h = rw (k, ← e, not-true on h)
 
-    pub text-on : not on ≡ false → (f g : Field) → f ≡ field_at s at → f ≡ g → text_to (on_field g (took no_text at) (λ p n. took (text_of p n) (p + n)) broke) ≡ text_step s w b
+    pub text_on : not on ≡ false → (f g : Field) → f ≡ field_at s at → f ≡ g → text_to (on_field g (took no_text at) (λ p n. took (text_of p n) (p + n)) broke) ≡ text_step s w b
     unfolding text_step text
-    text-on h f g p q = rw (k, ← e, not-false on h, ← p, q)
+    text_on h f g p q = rw (k, ← e, not-false on h, ← p, q)
 
     module _ (later : Bool) where
-      pub list-off : not on ≡ true → record { walk = At at; list = no_list } ≡ list_step s w b later
+      pub list_off : not on ≡ true → record { walk = At at; list = no_list } ≡ list_step s w b later
       unfolding list_step list
-      list-off h = rw (k, ← e, not-true on h)
+      list_off h = rw (k, ← e, not-true on h)
 
       pub list_on : not on ≡ false → (most : ℕ) (f g : Entries) → most ≡ pick later 1 (length s) → f ≡ entries most s at 0 → f ≡ g
           → list_to (on_entries g (λ count next. took (run_of at next count) next) broke) ≡ list_step s w b later

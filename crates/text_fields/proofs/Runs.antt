@@ -55,9 +55,9 @@ module _ (s : List ℕ) (at : ℕ) where
           let how = b ∙ ap (λ (n : ℕ). bad_len (drop good (take n (drop (at + 2) s)))) (add-sub_cancel_left (at + 2) len) in
           rw (le-ltb _ _ two, ← e, le-ltb _ _ whole, ← same, lt-ltb _ _ h, ← how)
 
-      pub whole-there : len ≤ good → Whole (at + 2) len ≡ field_at s at
+      pub whole_there : len ≤ good → Whole (at + 2) len ≡ field_at s at
       unfolding field_at
-      whole-there h = rw (le-ltb _ _ two, ← e, le-ltb _ _ whole, ← same, le-ltb _ _ h)
+      whole_there h = rw (le-ltb _ _ two, ← e, le-ltb _ _ whole, ← same, le-ltb _ _ h)
 
 -- what the tests were where a field is whole
 passed : (t u v : Bool) (x y : Fault) (a l : ℕ) {p n : ℕ} → pick t Absent (pick u (Faulty x) (pick v (Faulty y) (Whole a l))) ≡ Whole p n
@@ -176,15 +176,15 @@ module _ (t : List ℕ) (x : TextList) (b : Bool) (e : b ≡ is_empty x) where
 
   module _ (h : b ≡ false) where
     -- all its fields are there
-    pub list-run : (k next : ℕ) (g : Bool) → k ≤ x.count → x.count ≤ k → Run k next ≡ entries x.count t x.place 0 → g ≡ eqb (next - x.place) x.len → g ≡ is_list t x
+    pub list_run : (k next : ℕ) (g : Bool) → k ≤ x.count → x.count ≤ k → Run k next ≡ entries x.count t x.place 0 → g ≡ eqb (next - x.place) x.len → g ≡ is_list t x
     unfolding is_list
-    list-run k next g l m q p = rw (← e, h, ← q, eq-eqb k x.count (omega arith)) p
+    list_run k next g l m q p = rw (← e, h, ← q, eq-eqb k x.count (omega arith)) p
 
     -- there are fewer
-    pub list-short : (k next : ℕ) → k < x.count → Run k next ≡ entries x.count t x.place 0 → false ≡ is_list t x
+    pub list_short : (k next : ℕ) → k < x.count → Run k next ≡ entries x.count t x.place 0 → false ≡ is_list t x
     unfolding is_list
-    list-short k next l q = rw (← e, h, ← q, ne_eqb k x.count (λ z. omega arith))
+    list_short k next l q = rw (← e, h, ← q, ne_eqb k x.count (λ z. omega arith))
 
-    pub list-broken : (f : Fault) → Broken f ≡ entries x.count t x.place 0 → false ≡ is_list t x
+    pub list_broken : (f : Fault) → Broken f ≡ entries x.count t x.place 0 → false ≡ is_list t x
     unfolding is_list
-    list-broken f q = rw (← e, h, ← q)
+    list_broken f q = rw (← e, h, ← q)

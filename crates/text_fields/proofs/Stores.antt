@@ -66,17 +66,17 @@ some_text t x p h e = rw (not-false x.given h, e)
 
 module _ (d : List ℕ) (at : ℕ) (t : List ℕ) where
   module _ (x : MaybeText) where
-    pub none-put : not x.given ≡ true → Stored d at (text_bytes t x) at d
-    none-put h = rw (no_text_law t x h) (nothing_put d at)
+    pub none_put : not x.given ≡ true → Stored d at (text_bytes t x) at d
+    none_put h = rw (no_text_law t x h) (nothing_put d at)
 
     module _ (h : not x.given ≡ false) (p : List ℕ) (e : p ≡ take x.len (drop x.place t)) where
       pub text_not : length d < at + (2 + length p) → Stored d at (text_bytes t x) at d
       text_not g = rw (some_text t x p h e) (no_room d at (field_of p) (omega (arith, field_length p)))
 
-      pub text-put : (d1 d2 : List ℕ) → at + (2 + length p) ≤ length d → d1 ≡ put d at (big_endian_bytes 2 (length p)) → d2 ≡ put d1 (at + 2) p
+      pub text_put : (d1 d2 : List ℕ) → at + (2 + length p) ≤ length d → d1 ≡ put d at (big_endian_bytes 2 (length p)) → d2 ≡ put d1 (at + 2) p
           → Stored d at (text_bytes t x) (at + 2 + length p) d2
       unfolding field_of
-      text-put d1 d2 g q1 q2 =
+      text_put d1 d2 g q1 q2 =
           let n : at + 2 + length p ≡ at + length (field_of p) = omega (arith, field_length p) in
           rw (some_text t x p h e) (
             n ∙ room d at (field_of p) (omega (arith, field_length p)),
@@ -84,15 +84,15 @@ module _ (d : List ℕ) (at : ℕ) (t : List ℕ) where
           )
 
   module _ (x : TextList) (p : List ℕ) (e : p ≡ take x.len (drop x.place t)) where
-    pub list-none : length p ≡ 0 → Stored d at (run_bytes t x) at d
-    list-none h = rw (← e) (go p h)
+    pub list_none : length p ≡ 0 → Stored d at (run_bytes t x) at d
+    list_none h = rw (← e) (go p h)
       where
         go : (p : List ℕ) → length p ≡ 0 → Stored d at p at d
         go [] h = nothing_put d at
         go (b ∷ p) h = absurd (omega arith)
 
-    pub list-not : length d < at + length p → Stored d at (run_bytes t x) at d
-    list-not g = rw (← e) (no_room d at p g)
+    pub list_not : length d < at + length p → Stored d at (run_bytes t x) at d
+    list_not g = rw (← e) (no_room d at p g)
 
     pub list_put : (o : List ℕ) → at + length p ≤ length d → o ≡ put d at p → Stored d at (run_bytes t x) (at + length p) o
     list_put o g q = rw (← e) (room d at p g, q)

@@ -12,7 +12,7 @@ use Rattle.octets.proofs.Masks.{flags_low}
 use Rattle.kind.specs.Layout.{clear}
 use Rattle.kind.specs.Kind.{Reads, Kind}
 use Rattle.kind.specs.Demand3.{Demand3, PrefixFree}
-use Rattle.kind.proofs.Demand3.{demand3, prefix-free}
+use Rattle.kind.proofs.Demand3.{demand3, prefix_free}
 use Rattle.kind.proofs.Fixed.{Follows, Fixed, fixed_by, accepted_whole, cut_length, kind_of, local_of}
 use Rattle.kind.proofs.Laws.{end, Alike, alike_field, alike_bit}
 use Rattle.kind.proofs.Rows.{take_pieces}
@@ -93,7 +93,7 @@ pub demands : Demand3 kind
 demands = demand3 kind
 
 pub unlike : PrefixFree kind
-unlike = prefix-free kind (local_of fixed)
+unlike = prefix_free kind (local_of fixed)
 
 -- by rule 2 at most one of the two single bytes is sent
 one_byte : (b : ℕ) → broken_rule b ≡ 0 → if_set (bit 3 b) 1 + if_set (bit 6 b) 1 ≤ 1

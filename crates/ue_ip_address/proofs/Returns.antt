@@ -10,7 +10,7 @@ use Rattle.octets.specs.declared.MaybeIpv4.{MaybeIpv4}
 use Rattle.octets.specs.declared.MaybeIpv6.{MaybeIpv6}
 use Rattle.octets.specs.declared.MaybeU8.{MaybeU8}
 use Rattle.octets.specs.Octets.{pick, bit, if_set, field, ipv4_of, ipv6_of, u8_of}
-use Rattle.kind.proofs.Cases.{stop_long, stop-head, stop-rule, stop-field, all_there, width_if_set_law}
+use Rattle.kind.proofs.Cases.{stop_long, stop_head, stop_rule, stop_field, all_there, width_if_set_law}
 use Rattle.ue_ip_address.specs.declared.UeIpAddressRead.{UeIpAddressRead}
 use Rattle.ue_ip_address.specs.UeIpAddress.{broken_rule, layout, read, found, refused, record_of}
 use Rattle.ue_ip_address.proofs.Rules.{keeps2}
@@ -22,7 +22,7 @@ module _ (s : List ℕ) (r : UeIpAddressRead) where
 
   pub no_head : length s < 1 → r ≡ refused (Short 0 1 (length s)) → r ≡ read s
   unfolding read found
-  no_head h q = stop-head found layout s r (omega arith) h q
+  no_head h q = stop_head found layout s r (omega arith) h q
 
 -- no rule is broken
 pub free_of : (b k : ℕ) → k ≡ broken_rule b → k ≡ 0 → broken_rule b ≡ 0
@@ -32,24 +32,24 @@ free_of b k e z = sym e ∙ z
 module _ (s : List ℕ) (f : length s ≤ 65535) (a : 1 ≤ length s) where
   pub forbidden : (r : UeIpAddressRead) (k : ℕ) → k ≡ broken_rule (get_or s 0 0) → (k ≡ 0 → ⊥) → r ≡ refused (Flags (get_or s 0 0) k) → r ≡ read s
   unfolding read found
-  forbidden r k e h q = stop-rule found layout s r f k a (sym e) h q
+  forbidden r k e h q = stop_rule found layout s r f k a (sym e) h q
 
   -- its fields, one behind the other
   module _ (free : broken_rule (get_or s 0 0) ≡ 0) (v4 : Bool) (u4 : ℕ) (d4 : v4 ≡ bit 1 (get_or s 0 0)) (e4 : u4 ≡ if_set v4 4) where
     w4 : u4 ≡ if_set (bit 1 (get_or s 0 0)) 4
     w4 = width_if_set_law s 1 4 v4 u4 d4 e4
 
-    pub no-ipv4 : (r : UeIpAddressRead) → length s < 1 + u4 → r ≡ refused (Short 1 (1 + u4) (length s)) → r ≡ read s
+    pub no_ipv4 : (r : UeIpAddressRead) → length s < 1 + u4 → r ≡ refused (Short 1 (1 + u4) (length s)) → r ≡ read s
     unfolding read found
-    no-ipv4 r g q = stop-field found layout s r f free 0 1 _ 4 _ 1 (1 + u4) refl refl (ap (λ (u : ℕ). 1 + u) w4) a g q
+    no_ipv4 r g q = stop_field found layout s r f free 0 1 _ 4 _ 1 (1 + u4) refl refl (ap (λ (u : ℕ). 1 + u) w4) a g q
 
     module _ (v6 : Bool) (u6 : ℕ) (d6 : v6 ≡ bit 0 (get_or s 0 0)) (e6 : u6 ≡ if_set v6 16) where
       w6 : u6 ≡ if_set (bit 0 (get_or s 0 0)) 16
       w6 = width_if_set_law s 0 16 v6 u6 d6 e6
 
-      pub no-ipv6 : (r : UeIpAddressRead) → 1 + u4 ≤ length s → length s < 1 + u4 + u6 → r ≡ refused (Short 2 (1 + u4 + u6) (length s)) → r ≡ read s
+      pub no_ipv6 : (r : UeIpAddressRead) → 1 + u4 ≤ length s → length s < 1 + u4 + u6 → r ≡ refused (Short 2 (1 + u4 + u6) (length s)) → r ≡ read s
       unfolding read found
-      no-ipv6 r h g q = stop-field found layout s r f free 1 2 _ 16 _ (1 + u4) (1 + u4 + u6) refl (omega (arith, w4)) (ap (λ (u : ℕ). 1 + u4 + u) w6) h g q
+      no_ipv6 r h g q = stop_field found layout s r f free 1 2 _ 16 _ (1 + u4) (1 + u4 + u6) refl (omega (arith, w4)) (ap (λ (u : ℕ). 1 + u4 + u) w6) h g q
 
       module _ (d : Bool) (ud : ℕ) (dd : d ≡ bit 3 (get_or s 0 0)) (ed : ud ≡ if_set d 1) where
         wd : ud ≡ if_set (bit 3 (get_or s 0 0)) 1
@@ -57,7 +57,7 @@ module _ (s : List ℕ) (f : length s ≤ 65535) (a : 1 ≤ length s) where
 
         pub no_bits : (r : UeIpAddressRead) → 1 + u4 + u6 ≤ length s → length s < 1 + u4 + u6 + ud → r ≡ refused (Short 3 (1 + u4 + u6 + ud) (length s)) → r ≡ read s
         unfolding read found
-        no_bits r h g q = stop-field found layout s r f free 2 3 _ 1 _ (1 + u4 + u6) (1 + u4 + u6 + ud) refl (omega (arith, w4, w6)) (ap (λ (u : ℕ). 1 + u4 + u6 + u) wd) h g q
+        no_bits r h g q = stop_field found layout s r f free 2 3 _ 1 _ (1 + u4 + u6) (1 + u4 + u6 + ud) refl (omega (arith, w4, w6)) (ap (λ (u : ℕ). 1 + u4 + u6 + u) wd) h g q
 
         module _ (p : Bool) (up : ℕ) (dp : p ≡ bit 6 (get_or s 0 0)) (ep : up ≡ if_set p 1) where
           wp : up ≡ if_set (bit 6 (get_or s 0 0)) 1
@@ -65,7 +65,7 @@ module _ (s : List ℕ) (f : length s ≤ 65535) (a : 1 ≤ length s) where
 
           pub no-prefix : (r : UeIpAddressRead) → 1 + u4 + u6 + ud ≤ length s → length s < 1 + u4 + u6 + ud + up → r ≡ refused (Short 4 (1 + u4 + u6 + ud + up) (length s)) → r ≡ read s
           unfolding read found
-          no-prefix r h g q = stop-field found layout s r f free 3 4 _ 1 _ (1 + u4 + u6 + ud) (1 + u4 + u6 + ud + up) refl (omega (arith, w4, w6, wd)) (ap (λ (u : ℕ). 1 + u4 + u6 + ud + u) wp) h g q
+          no-prefix r h g q = stop_field found layout s r f free 3 4 _ 1 _ (1 + u4 + u6 + ud) (1 + u4 + u6 + ud + up) refl (omega (arith, w4, w6, wd)) (ap (λ (u : ℕ). 1 + u4 + u6 + ud + u) wp) h g q
 
           -- the one of the last two that is cut: only one of them is sent
           pub no_byte : (r : UeIpAddressRead) (k : ℕ) → k ≡ pick d 3 4 → 1 + u4 + u6 ≤ length s → length s < 1 + u4 + u6 + ud + up → r ≡ refused (Short k (1 + u4 + u6 + ud + up) (length s)) → r ≡ read s

@@ -21,9 +21,9 @@ module _ (b : ℕ) {t1 : Bool} (e1 : t1 ≡ breaks_rule1 b) where
       unfolding broken_rule
       rule3 h = rw (← e1, kept1, ← e2, kept2, ← e3, h)
 
-      pub no-rule : t3 ≡ false → 0 ≡ broken_rule b
+      pub no_rule : t3 ≡ false → 0 ≡ broken_rule b
       unfolding broken_rule
-      no-rule h = rw (← e1, kept1, ← e2, kept2, ← e3, h)
+      no_rule h = rw (← e1, kept1, ← e2, kept2, ← e3, h)
 
 -- two flags that aren't set
 pub neither : (a b : Bool) → a || b ≡ false → (a ≡ false) × (b ≡ false)

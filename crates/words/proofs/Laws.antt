@@ -235,11 +235,11 @@ module _ (text : List ℕ) (n i : ℕ) (r : Parsed) (more : i < length text) (st
     good : with_digit n (get_or text i 0) ≡ some r.value
     good = parsed_good (with_digit n (get_or text i 0)) r step h
 
-    pub decimal-fits : r.value < 2 ^ 64
-    decimal-fits = number_fits n r.value (get_or text i 0) good
+    pub decimal_fits : r.value < 2 ^ 64
+    decimal_fits = number_fits n r.value (get_or text i 0) good
 
-    pub decimal-more : number_from r.value (drop (i + 1) text) ≡ decimal_of text
-    decimal-more =
+    pub decimal_more : number_from r.value (drop (i + 1) text) ≡ decimal_of text
+    decimal_more =
         rw add-one (sym (number_more n r.value (get_or text i 0) (drop (suc i) text) good) ∙ ap (number_from n) (sym (drop-cons text i 0 more)) ∙ left)
 
 pub decimal_all : (text : List ℕ) (n i : ℕ) (r : Parsed) → length text ≤ i → n < 2 ^ 64 → number_from n (drop i text) ≡ decimal_of text → r ≡ as_parsed (some n) → r ≡ as_parsed (decimal_of text)
@@ -343,13 +343,13 @@ module _ (s : List ℕ) (room n : ℕ) (t : Bool) (count : n ≡ length (pairs r
     pays : ltb 0 (length s) && are_pairs room s ≡ a
     pays = sym (good ∙ rw (all, count))
 
-    pub payload-bad : (r : Filled) → not a ≡ true → r ≡ as_filled none → r ≡ as_filled (payload_of room s)
+    pub payload_bad : (r : Filled) → not a ≡ true → r ≡ as_filled none → r ≡ as_filled (payload_of room s)
     unfolding payload_of presence
-    payload-bad r h e = e ∙ rw (← told s (0x2D ∷ []) t dash, no-dash, pays, not-true a h)
+    payload_bad r h e = e ∙ rw (← told s (0x2D ∷ []) t dash, no-dash, pays, not-true a h)
 
-    pub payload-good : (r : Filled) → not a ≡ false → r ≡ record { is_good = true; len = n } → r ≡ as_filled (payload_of room s)
+    pub payload_good : (r : Filled) → not a ≡ false → r ≡ record { is_good = true; len = n } → r ≡ as_filled (payload_of room s)
     unfolding payload_of presence as_filled
-    payload-good r h e = e ∙ rw (← told s (0x2D ∷ []) t dash, no-dash, pays, not-false a h, count)
+    payload_good r h e = e ∙ rw (← told s (0x2D ∷ []) t dash, no-dash, pays, not-false a h, count)
 
 -- where a text is a payload, that stands at the start of the output
 pub payload_there : (s d bs : List ℕ) → payload_of (length d) s ≡ some bs → take (length bs) (put d 0 (pairs (length d) s)) ≡ bs

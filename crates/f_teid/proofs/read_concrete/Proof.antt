@@ -1,7 +1,7 @@
 -- `f_teid::read_concrete` meets its contract: at each return, the tests that led there and what the calls handed over.
 use borrow.Author.Rules.{rules}
 use Rattle.octets.proofs.Laws.{part_width}
-use Rattle.f_teid.proofs.Returns.{teid_fits, no_teid_law, no-ipv4, no-ipv6, whole}
+use Rattle.f_teid.proofs.Returns.{teid_fits, no_teid_law, no_ipv4_law, no_ipv6_law, whole}
 use Rattle.f_teid.proofs.read_concrete.Statement.{statement}
 use Rattle.f_teid.proofs.read_concrete.Tie as tie
 
@@ -9,10 +9,10 @@ returns : tie.Need-returns
 returns c = search no_teid_law
 
 returns-2 : tie.Need-returns-2
-returns-2 c = search no-ipv4
+returns-2 c = search no_ipv4_law
 
 returns-3 : tie.Need-returns-3
-returns-3 c = search no-ipv6
+returns-3 c = search no_ipv6_law
 
 cast-teid : tie.Need-overflow-cast-teid
 cast-teid c = record { fits = search teid_fits }

@@ -8,7 +8,7 @@ use borrow.Author.Rules.{rules}
 use Rattle.octets.specs.Octets.{if_set, flag_byte, big_endian_bytes, bytes_if, ipv4_meaning, ipv6_meaning, put}
 use Rattle.octets.proofs.Laws.{flags_padded, Puts}
 use Rattle.kind.proofs.Cases.{no_room, all_put}
-use Rattle.kind.proofs.Endpoint.{endpoint_wire, form_length, form-row}
+use Rattle.kind.proofs.Endpoint.{endpoint_wire, form_length, form_row}
 use Rattle.f_teid.specs.declared.Fteid.{Fteid}
 use Rattle.f_teid.specs.Fteid.{meaning, tail, wire}
 use Rattle.f_teid.proofs.write_concrete.Statement.{statement}
@@ -35,7 +35,7 @@ module _ (r : Fteid) (u4 u6 : ℕ) (ch : r.ch ≡ false) (e4 : u4 ≡ if_set r.i
       → Puts d 0 (wire (meaning r)) d4
   row f d d1 d2 d3 d4 g q1 q2 q3 q4 =
       rw formed
-      (form-row (first r) 4 r.teid.0 r.ipv4_address r.ipv6_address u4 u6 e4 e6 l4 l6 d d1 d2 d3 d4 (rw (g ∙ flags_padded (r.v4 ∷ r.v6 ∷ false ∷ false ∷ []) 4) at q1) q2 q3 q4)
+      (form_row (first r) 4 r.teid.0 r.ipv4_address r.ipv6_address u4 u6 e4 e6 l4 l6 d d1 d2 d3 d4 (rw (g ∙ flags_padded (r.v4 ∷ r.v6 ∷ false ∷ false ∷ []) 4) at q1) q2 q3 q4)
 
 -- the arrays are as long as their types say
 lengths : (c : tie.Start) → (length c.args.r.ipv4_address.octets ≡ 4) × (length c.args.r.ipv6_address.octets ≡ 16)

@@ -1,16 +1,16 @@
 -- `fseid_image::read_concrete` meets its contract: at each return, the tests that led there and what the calls handed over.
 use borrow.Author.Rules.{rules}
-use Rattle.fseid.proofs.Returns.{no-ipv4, no-ipv6, whole}
+use Rattle.fseid.proofs.Returns.{no_ipv4, no_ipv6, whole}
 use Rattle.image.proofs.Laws.{zeros4, zeros6}
 use Rattle.fseid_image.proofs.Reading.{refusal, accepted}
 use Rattle.fseid_image.proofs.read_concrete.Statement.{statement}
 use Rattle.fseid_image.proofs.read_concrete.Tie as tie
 
 returns : tie.Need-returns
-returns c = refusal _ _ _ c.before.before.put-short.ensures (search no-ipv4)
+returns c = refusal _ _ _ c.before.before.put-short.ensures (search no_ipv4)
 
 returns-2 : tie.Need-returns-2
-returns-2 c = refusal _ _ _ c.before.before.put-short2.ensures (search no-ipv6)
+returns-2 c = refusal _ _ _ c.before.before.put-short2.ensures (search no_ipv6)
 
 put-image-requires : tie.Need-put-image-requires
 put-image-requires c κs = search (rules, zeros4, zeros6)

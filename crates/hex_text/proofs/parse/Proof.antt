@@ -5,7 +5,7 @@ use mathlib.Core.Path.{◌≡◌, refl}
 use lib.ListN.{length}
 use Rattle.hex_text.specs.Hex.{worth}
 use Rattle.hex_text.proofs.Table.{tabled}
-use Rattle.hex_text.proofs.Laws.{worth_or, looked_up, looked_most, Parsed, parsed_none, parsed_bad, parsed-more, parsed_all}
+use Rattle.hex_text.proofs.Laws.{worth_or, looked_up, looked_most, Parsed, parsed_none, parsed_bad, parsed_more, parsed_all}
 use borrow.Author.Rules.{rules}
 use Rattle.hex_text.proofs.parse.Statement.{statement}
 use Rattle.hex_text.proofs.parse.Tie as tie
@@ -93,7 +93,7 @@ loop-again c =
     let l = k.before.before.before in
     let high = looked_up _ _ l.loop.invariant.0 (k.before.shared-slice-known2.given (2 * l.loop.i)).fits in
     let low = looked_up _ _ l.loop.invariant.0 (k.shared-slice-known3.given (2 * l.loop.i + 1)).fits in
-    (l.loop.invariant.0, omega arith, l.loop.invariant.2, parsed-more _ _ _ l.loop.i l.loop.invariant.3 (omega arith) (omega arith) _ _ high low c.if1.false)
+    (l.loop.invariant.0, omega arith, l.loop.invariant.2, parsed_more _ _ _ l.loop.i l.loop.invariant.3 (omega arith) (omega arith) _ _ high low c.if1.false)
 
 same-length-2 : tie.Need-same-length-2 invariant-loop decreases-loop
 same-length-2 c = search rules

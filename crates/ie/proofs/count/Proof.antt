@@ -6,7 +6,7 @@ use mathlib.Core.Path.{◌≡◌, refl}
 use lib.ListN.{length, drop}
 use Rattle.ie.specs.Ie.{ies}
 use Rattle.ie.specs.Steps.{counted}
-use Rattle.ie.proofs.Walks.{passed, count_end, count-stop, count-step}
+use Rattle.ie.proofs.Walks.{passed, count_end, count_stop, count_step}
 use Rattle.ie.proofs.count.Statement.{statement}
 use Rattle.ie.proofs.count.Tie as tie
 
@@ -49,14 +49,14 @@ loop-again c =
     let l = o.before.before.before in
     let x = l.before.before.before.args in
     let w = passed x.zero-types.now x.body.now l.loop.place l.loop.rows l.loop.invariant.2 (omega (arith, o.before.before.loop-test.true)) o.end_of_lem.ensures c.before.end.given.1 in
-    (omega (arith, w), omega (arith, w, l.loop.invariant.1), count-step x.zero-types.now x.body.now l.loop.place l.loop.rows l.loop.invariant.2 (omega (arith, o.before.before.loop-test.true)) o.end_of_lem.ensures c.before.end.given.1)
+    (omega (arith, w), omega (arith, w, l.loop.invariant.1), count_step x.zero-types.now x.body.now l.loop.place l.loop.rows l.loop.invariant.2 (omega (arith, o.before.before.loop-test.true)) o.end_of_lem.ensures c.before.end.given.1)
 
 returns : tie.Need-returns invariant-loop decreases-loop
 returns c =
     let o = c.before.before.before in
     let l = o.before.before.before in
     let x = l.before.before.before.args in
-    count-stop x.zero-types.now x.body.now l.loop.place l.loop.rows l.loop.invariant.2 (omega (arith, o.before.before.loop-test.true)) o.end_of_lem.ensures c.before.answer.given.1
+    count_stop x.zero-types.now x.body.now l.loop.place l.loop.rows l.loop.invariant.2 (omega (arith, o.before.before.loop-test.true)) o.end_of_lem.ensures c.before.answer.given.1
 
 returns-2 : tie.Need-returns-2 invariant-loop decreases-loop
 returns-2 c = let l = c.before in count_end _ _ l.loop.place l.loop.rows l.loop.invariant.2 c.loop-test.false

@@ -5,7 +5,7 @@ use Prim.Native.Nat.{◌≤◌, ◌-◌}
 use mathlib.Core.Path.{◌≡◌, refl}
 use lib.ListN.{length, length-set}
 use Rattle.ie.specs.Ie.{ies, filled}
-use Rattle.ie.proofs.Tables.{Left, starts, is_whole, has_room, fill_end, fill-bounds, fill_step}
+use Rattle.ie.proofs.Tables.{Left, starts, is_whole, has_room, fill_end, fill_bounds, fill_step}
 use Rattle.ie.proofs.fill.Statement.{statement}
 use Rattle.ie.proofs.fill.Tie as tie
 
@@ -28,7 +28,7 @@ row-of-requires : tie.Need-row-of-requires invariant-loop decreases-loop
 row-of-requires c κs =
     let l = c.before.before in
     let x = l.before.before.before.args in
-    let w = fill-bounds x.zero-types.now x.body.now l.loop.at l.loop.table l.loop.row l.loop.invariant.3 c.before.loop-test.true c.record-at.ensures in
+    let w = fill_bounds x.zero-types.now x.body.now l.loop.at l.loop.table l.loop.row l.loop.invariant.3 c.before.loop-test.true c.record-at.ensures in
     (omega (arith, w.1, l.before.before.before.requires.0), omega (arith, w.1, l.before.before.before.requires.0))
 
 mul-t7 : tie.Need-overflow-mul-t7 invariant-loop decreases-loop
@@ -36,7 +36,7 @@ mul-t7 c =
     let a = c.before in
     let l = a.before.before in
     let x = l.before.before.before.args in
-    let w = fill-bounds x.zero-types.now x.body.now l.loop.at l.loop.table l.loop.row l.loop.invariant.3 a.before.loop-test.true a.record-at.ensures in
+    let w = fill_bounds x.zero-types.now x.body.now l.loop.at l.loop.table l.loop.row l.loop.invariant.3 a.before.loop-test.true a.record-at.ensures in
     omega (arith, w.1, l.loop.invariant.1, l.before.before.before.requires.0)
 
 slice-set-from-table : tie.Need-slice-set-from-table invariant-loop decreases-loop
@@ -56,7 +56,7 @@ add_at c =
     let a = c.before.before in
     let l = a.before.before in
     let x = l.before.before.before.args in
-    let w = fill-bounds x.zero-types.now x.body.now l.loop.at l.loop.table l.loop.row l.loop.invariant.3 a.before.loop-test.true a.record-at.ensures in
+    let w = fill_bounds x.zero-types.now x.body.now l.loop.at l.loop.table l.loop.row l.loop.invariant.3 a.before.loop-test.true a.record-at.ensures in
     omega (arith, w.1, l.before.before.before.requires.0)
 
 add-at-2 : tie.Need-overflow-add-at-2 invariant-loop decreases-loop
@@ -64,7 +64,7 @@ add-at-2 c =
     let a = c.before.before in
     let l = a.before.before in
     let x = l.before.before.before.args in
-    let w = fill-bounds x.zero-types.now x.body.now l.loop.at l.loop.table l.loop.row l.loop.invariant.3 a.before.loop-test.true a.record-at.ensures in
+    let w = fill_bounds x.zero-types.now x.body.now l.loop.at l.loop.table l.loop.row l.loop.invariant.3 a.before.loop-test.true a.record-at.ensures in
     omega (arith, w.1, l.before.before.before.requires.0)
 
 loop-less : tie.Need-loop-smaller invariant-loop decreases-loop
@@ -72,7 +72,7 @@ loop-less c =
     let a = c.before.before in
     let l = a.before.before in
     let x = l.before.before.before.args in
-    let w = fill-bounds x.zero-types.now x.body.now l.loop.at l.loop.table l.loop.row l.loop.invariant.3 a.before.loop-test.true a.record-at.ensures in
+    let w = fill_bounds x.zero-types.now x.body.now l.loop.at l.loop.table l.loop.row l.loop.invariant.3 a.before.loop-test.true a.record-at.ensures in
     omega (arith, w.0, w.1)
 
 loop-again : tie.Need-loop-preserved invariant-loop decreases-loop
@@ -80,7 +80,7 @@ loop-again c =
     let a = c.before.before in
     let l = a.before.before in
     let x = l.before.before.before.args in
-    let w = fill-bounds x.zero-types.now x.body.now l.loop.at l.loop.table l.loop.row l.loop.invariant.3 a.before.loop-test.true a.record-at.ensures in (
+    let w = fill_bounds x.zero-types.now x.body.now l.loop.at l.loop.table l.loop.row l.loop.invariant.3 a.before.loop-test.true a.record-at.ensures in (
       omega (arith, w.1),
       omega (arith, w.0, l.loop.invariant.1),
       simp length-set l.loop.invariant.2,

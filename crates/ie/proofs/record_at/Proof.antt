@@ -1,7 +1,7 @@
 -- `ie::record_at` meets its contract: each number is there.
 use borrow.Author.Rules.{rules}
 use native.Mathlib.Omega.{arith}
-use Rattle.ie.proofs.Envelopes.{head_there, number_there, counts-it, vendor-record, other-record}
+use Rattle.ie.proofs.Envelopes.{head_there, number_there, counts_it, vendor_record, other_record}
 use Rattle.ie.proofs.record_at.Statement.{statement}
 use Rattle.ie.proofs.record_at.Tie as tie
 
@@ -28,14 +28,14 @@ sub-t11 : tie.Need-overflow-sub-t11
 sub-t11 c =
     let v = c.before.before in
     let a = v.before.before.before.before in
-    let w = counts-it a.args.s.now a.args.at a.requires v.before.before.pair.ensures.0 v.before.pair2.ensures.0 v.is-vendor.ensures c.before.if1.true in
+    let w = counts_it a.args.s.now a.args.at a.requires v.before.before.pair.ensures.0 v.before.pair2.ensures.0 v.is-vendor.ensures c.before.if1.true in
     omega (arith, w)
 
 returns : tie.Need-returns
-returns c = search vendor-record
+returns c = search vendor_record
 
 returns-2 : tie.Need-returns-2
-returns-2 c = search other-record
+returns-2 c = search other_record
 
 pub record-at-spec : {M : Type 1} → statement M
 record-at-spec =

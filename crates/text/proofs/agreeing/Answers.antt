@@ -1,6 +1,6 @@
 use Prim.Native.Nat.{◌-◌, ◌≤◌}
 use borrow.Author.Rules.{rules}
-use Rattle.text.proofs.Agree.{Agreed, agreed_first, agreed_end, agreed-stop, agreed-more}
+use Rattle.text.proofs.Agree.{Agreed, agreed_first, agreed_end, agreed_stop, agreed_more}
 use Rattle.text.proofs.agreeing.Goals as goal
 
 pub loop-i-init : goal.loop-i-init
@@ -9,10 +9,10 @@ loop-i-init c =
     agreed_first a.args.text.now a.args.at a.args.row c.least-n.result c.least-n.ensures a.requires.nonzero
 
 pub returns-then-not-allows : goal.returns-then-not-allows
-returns-then-not-allows c = search agreed-stop
+returns-then-not-allows c = search agreed_stop
 
 pub loop-i-preserved : goal.loop-i-preserved
-loop-i-preserved c = (search rules, search agreed-more)
+loop-i-preserved c = (search rules, search agreed_more)
 
 pub returns : goal.returns
 returns c = search agreed_end

@@ -1,17 +1,17 @@
 -- `ue_ip_address_image::read_fields` meets its contract: at each return, the tests that led there and what the calls handed over.
 use native.Mathlib.Nat.{add-sub_cancel_left}
 use borrow.Author.Rules.{rules}
-use Rattle.ue_ip_address.proofs.Returns.{no-ipv4, no-ipv6, no_byte, whole}
+use Rattle.ue_ip_address.proofs.Returns.{no_ipv4, no_ipv6, no_byte, whole}
 use Rattle.image.proofs.Laws.{zeros4, zeros6}
 use Rattle.ue_ip_address_image.proofs.Reading.{refusal, accepted}
 use Rattle.ue_ip_address_image.proofs.read_fields.Statement.{statement}
 use Rattle.ue_ip_address_image.proofs.read_fields.Tie as tie
 
 returns : tie.Need-returns
-returns c = refusal _ _ _ c.before.before.put-short.ensures (search no-ipv4)
+returns c = refusal _ _ _ c.before.before.put-short.ensures (search no_ipv4)
 
 returns-2 : tie.Need-returns-2
-returns-2 c = refusal _ _ _ c.before.before.put-short2.ensures (search no-ipv6)
+returns-2 c = refusal _ _ _ c.before.before.put-short2.ensures (search no_ipv6)
 
 returns-3 : tie.Need-returns-3
 returns-3 c = refusal _ _ _ c.before.before.put-short3.ensures (search no_byte)

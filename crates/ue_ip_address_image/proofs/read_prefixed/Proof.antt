@@ -7,14 +7,14 @@ use lib.ListN.{get_or}
 use borrow.Author.Rules.{rules}
 use Rattle.octets.specs.Octets.{bit}
 use Rattle.ue_ip_address.specs.UeIpAddress.{breaks_rule1, breaks_rule2, breaks_rule3, broken_rule}
-use Rattle.ue_ip_address.proofs.Rules.{rule2, rule3, no-rule}
+use Rattle.ue_ip_address.proofs.Rules.{rule2, rule3, no_rule}
 use Rattle.ue_ip_address.proofs.Returns.{forbidden}
 use Rattle.ue_ip_address_image.proofs.Reading.{refusal}
 use Rattle.ue_ip_address_image.proofs.read_prefixed.Statement.{statement}
 use Rattle.ue_ip_address_image.proofs.read_prefixed.Tie as tie
 
 free : (b : ℕ) {t u : Bool} → breaks_rule1 b ≡ false → t ≡ breaks_rule2 b → t ≡ false → u ≡ breaks_rule3 b → u ≡ false → broken_rule b ≡ 0
-free b k1 e2 k2 e3 k3 = sym (no-rule b refl k1 e2 k2 e3 k3)
+free b k1 e2 k2 e3 k3 = sym (no_rule b refl k1 e2 k2 e3 k3)
 
 -- just one of IPv6D and IP6PL
 module _ (b : ℕ) {x : Bool} (e : x ≡ bit 3 b) where

@@ -5,7 +5,7 @@ use native.Mathlib.Omega.{arith}
 use mathlib.Core.Path.{◌≡◌, refl, ap, sym}
 use lib.ListN.{length, drop}
 use Rattle.words.specs.Words.{decimal_of, as_parsed}
-use Rattle.words.proofs.Laws.{number_from, decimal_none, decimal_some, decimal_stop, decimal-fits, decimal-more, decimal_all}
+use Rattle.words.proofs.Laws.{number_from, decimal_none, decimal_some, decimal_stop, decimal_fits, decimal_more, decimal_all}
 use borrow.Author.Rules.{rules}
 use Rattle.words.proofs.decimal.Statement.{statement}
 use Rattle.words.proofs.decimal.Tie as tie
@@ -47,8 +47,8 @@ loop-again c =
     let l = step.before.before.before.loop in (
       omega arith,
       (
-        decimal-fits _ l.n l.i _ step.before.before.loop-test.true step.with-digit.ensures l.invariant.1.1 c.if2.false,
-        decimal-more _ l.n l.i _ step.before.before.loop-test.true step.with-digit.ensures l.invariant.1.1 c.if2.false,
+        decimal_fits _ l.n l.i _ step.before.before.loop-test.true step.with-digit.ensures l.invariant.1.1 c.if2.false,
+        decimal_more _ l.n l.i _ step.before.before.loop-test.true step.with-digit.ensures l.invariant.1.1 c.if2.false,
       ),
     )
 

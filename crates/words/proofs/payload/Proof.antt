@@ -1,7 +1,7 @@
 -- `words::payload` meets its contract: by whether the text is a dash, and by whether it is pairs alone.
 use mathlib.Core.Path.{refl}
 use Rattle.words.specs.Words.{as_filled}
-use Rattle.words.proofs.Laws.{payload_dash, payload-bad, payload-good}
+use Rattle.words.proofs.Laws.{payload_dash, payload_bad, payload_good}
 use borrow.Author.Rules.{rules}
 use Rattle.words.proofs.payload.Statement.{statement}
 use Rattle.words.proofs.payload.Tie as tie
@@ -19,7 +19,7 @@ returns-2 c =
     let whole = both.before in
     let if1 = whole.before in
     let parse = if1.before.before.before.before.before in
-    (payload-bad _ _ _ _ parse.parse.ensures.0 if1.before.same.ensures _ _ if1.if1.false whole.is_whole.ensures both.both.ensures _ c.if2.true refl, parse.parse.ensures.1.0)
+    (payload_bad _ _ _ _ parse.parse.ensures.0 if1.before.same.ensures _ _ if1.if1.false whole.is_whole.ensures both.both.ensures _ c.if2.true refl, parse.parse.ensures.1.0)
 
 returns-3 : tie.Need-returns-3
 returns-3 c =
@@ -27,7 +27,7 @@ returns-3 c =
     let whole = both.before in
     let if1 = whole.before in
     let parse = if1.before.before.before.before.before in
-    (payload-good _ _ _ _ parse.parse.ensures.0 if1.before.same.ensures _ _ if1.if1.false whole.is_whole.ensures both.both.ensures _ c.if2.false refl, parse.parse.ensures.1.0)
+    (payload_good _ _ _ _ parse.parse.ensures.0 if1.before.same.ensures _ _ if1.if1.false whole.is_whole.ensures both.both.ensures _ c.if2.false refl, parse.parse.ensures.1.0)
 
 pub payload-spec : {M : Type 1} → statement M
 payload-spec =

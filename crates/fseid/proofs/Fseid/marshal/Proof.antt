@@ -8,7 +8,7 @@ use borrow.Author.Rules.{rules}
 use Rattle.octets.specs.Octets.{if_set, flag_byte, big_endian_bytes, bytes_if, ipv4_meaning, ipv6_meaning, put}
 use Rattle.octets.proofs.Laws.{flags_padded, Puts}
 use Rattle.kind.proofs.Cases.{no_room, all_put}
-use Rattle.kind.proofs.Endpoint.{form_length, form-row}
+use Rattle.kind.proofs.Endpoint.{form_length, form_row}
 use Rattle.fseid.specs.declared.Fseid.{Fseid}
 use Rattle.fseid.specs.Fseid.{meaning, wire}
 use Rattle.fseid.proofs.Fseid.marshal.Statement.{statement}
@@ -27,7 +27,7 @@ module _ (r : Fseid) (u4 u6 : ℕ) (e4 : u4 ≡ if_set r.ipv4_address.given 4) (
       → Puts d 0 (wire (meaning r)) d4
   unfolding wire meaning
   row f d d1 d2 d3 d4 g q1 q2 q3 q4 =
-      form-row (flag_byte (r.v6 ∷ r.v4 ∷ [])) 8 r.seid.0 r.ipv4_address r.ipv6_address u4 u6 e4 e6 l4 l6 d d1 d2 d3 d4 (rw (g ∙ flags_padded (r.v6 ∷ r.v4 ∷ []) 6) at q1) q2 q3 q4
+      form_row (flag_byte (r.v6 ∷ r.v4 ∷ [])) 8 r.seid.0 r.ipv4_address r.ipv6_address u4 u6 e4 e6 l4 l6 d d1 d2 d3 d4 (rw (g ∙ flags_padded (r.v6 ∷ r.v4 ∷ []) 6) at q1) q2 q3 q4
 
 -- the arrays are as long as their types say
 lengths : (c : tie.Start) → (length c.args.self.ipv4_address.octets ≡ 4) × (length c.args.self.ipv6_address.octets ≡ 16)

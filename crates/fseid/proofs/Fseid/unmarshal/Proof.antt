@@ -1,7 +1,7 @@
 -- `fseid::Fseid::unmarshal` meets its contract: at each return, the tests that led there and what the calls handed over.
 use borrow.Author.Rules.{rules}
 use Rattle.octets.proofs.Laws.{part_width}
-use Rattle.fseid.proofs.Returns.{too_long, no_head, no-ipv4, no-ipv6, whole}
+use Rattle.fseid.proofs.Returns.{too_long, no_head, no_ipv4, no_ipv6, whole}
 use Rattle.fseid.proofs.Fseid.unmarshal.Statement.{statement}
 use Rattle.fseid.proofs.Fseid.unmarshal.Tie as tie
 
@@ -12,10 +12,10 @@ returns-2 : tie.Need-returns-2
 returns-2 c = search no_head
 
 returns-3 : tie.Need-returns-3
-returns-3 c = search no-ipv4
+returns-3 c = search no_ipv4
 
 returns-4 : tie.Need-returns-4
-returns-4 c = search no-ipv6
+returns-4 c = search no_ipv6
 
 returns-5 : tie.Need-returns-5
 returns-5 c = search (whole, part_width)

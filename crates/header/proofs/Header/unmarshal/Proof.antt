@@ -7,7 +7,7 @@ use borrow.Author.Rules.{rules}
 use Rattle.octets.specs.Octets.{field}
 use Rattle.octets.proofs.Laws.{number_below}
 use Rattle.header.proofs.Laws.{version_read}
-use Rattle.header.proofs.Returns.{too_long, no_head, no-first-half, no-second-half, whole}
+use Rattle.header.proofs.Returns.{too_long, no_head, no_first_half, no_second_half, whole}
 use Rattle.header.proofs.Header.unmarshal.Statement.{statement}
 use Rattle.header.proofs.Header.unmarshal.Tie as tie
 
@@ -25,10 +25,10 @@ returns-2 : tie.Need-returns-2
 returns-2 c = search no_head
 
 returns-3 : tie.Need-returns-3
-returns-3 c = search no-first-half
+returns-3 c = search no_first_half
 
 returns-4 : tie.Need-returns-4
-returns-4 c = search no-second-half
+returns-4 c = search no_second_half
 
 cast-t35 : tie.Need-overflow-cast-t35
 cast-t35 c = record { fits = search length-fits }

@@ -1,6 +1,6 @@
 -- `ie::Ie::unmarshal` meets its contract: 5, then what the tests say, then the record.
 use borrow.Author.Rules.{rules}
-use Rattle.ie.proofs.Envelopes.{ends, too_long, refused-one, found-one}
+use Rattle.ie.proofs.Envelopes.{ends, too_long, refused_one, found_one}
 use Rattle.ie.proofs.Ie.unmarshal.Statement.{statement}
 use Rattle.ie.proofs.Ie.unmarshal.Tie as tie
 
@@ -29,10 +29,10 @@ record-at-requires c κs =
     (ends x.zero-types.now x.s.now o.end_of_lem.ensures c.before.end.given.1).0
 
 returns-2 : tie.Need-returns-2
-returns-2 c = search refused-one
+returns-2 c = search refused_one
 
 returns-3 : tie.Need-returns-3
-returns-3 c = search found-one
+returns-3 c = search found_one
 
 pub unmarshal-spec : {M : Type 1} → statement M
 unmarshal-spec =

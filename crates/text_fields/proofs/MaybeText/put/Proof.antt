@@ -1,6 +1,6 @@
 -- `text_fields::MaybeText::put` meets its contract: by whether the text is there, then by whether there is room; two puts are one.
 use native.Mathlib.Omega.{arith}
-use Rattle.text_fields.proofs.Stores.{none-put, text_not, text-put}
+use Rattle.text_fields.proofs.Stores.{none_put, text_not, text_put}
 use borrow.Author.Rules.{rules}
 use Rattle.text_fields.proofs.MaybeText.put.Statement.{statement}
 use Rattle.text_fields.proofs.MaybeText.put.Tie as tie
@@ -11,7 +11,7 @@ use Rattle.octets.proofs.put_number.Reads as put-number-reads
 use Rattle.texts.proofs.part.Reads as part-reads
 
 returns : tie.Need-returns
-returns c = none-put _ _ _ _ c.if1.true
+returns c = none_put _ _ _ _ c.if1.true
 
 returns-2 : tie.Need-returns-2
 returns-2 c = let p = c.before in text_not _ _ _ _ p.before.if1.false _ p.part.ensures (omega arith)
@@ -25,7 +25,7 @@ returns-4 c = let p = c.before.before.before in text_not _ _ _ _ p.before.if1.fa
 returns-5 : tie.Need-returns-5
 returns-5 c =
     let p = c.before.before.before.before.before.before.before.before.before.before.before in
-    text-put _ _ _ _ p.before.if1.false _ p.part.ensures _ _ (omega arith) c.before.before.before.before.before.before.put-number.ensures c.before.before.put-bytes.ensures
+    text_put _ _ _ _ p.before.if1.false _ p.part.ensures _ _ (omega arith) c.before.before.before.before.before.before.put-number.ensures c.before.before.put-bytes.ensures
 
 pub put_spec : {M : Type 1} → statement M
 put_spec =

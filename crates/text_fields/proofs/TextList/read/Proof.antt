@@ -2,7 +2,7 @@
 use native.Mathlib.Omega.{arith}
 use mathlib.Core.Path.{sym, ◌∙◌}
 use Rattle.text_fields.proofs.Runs.{grows}
-use Rattle.text_fields.proofs.Reading.{list_after, list-off, list_on}
+use Rattle.text_fields.proofs.Reading.{list_after, list_off, list_on}
 use borrow.Author.Rules.{rules}
 use Rattle.text_fields.proofs.TextList.read.Statement.{statement}
 use Rattle.text_fields.proofs.TextList.read.Tie as tie
@@ -13,7 +13,7 @@ use Rattle.text_fields.proofs.fields.entries_at.Reads as entries-at-reads
 use Rattle.text_fields.proofs.read.most_of.Reads as most-of-reads
 
 returns : tie.Need-returns
-returns c = search list-off
+returns c = search list_off
 
 sub-t21 : tie.Need-overflow-sub-t21
 sub-t21 c = omega (arith, grows _ _ _ _ (sym c.before.before.before.entries_at.ensures ∙ c.before.count.given.1))

@@ -1,6 +1,6 @@
 -- `text_fields::TextList::with_entry` meets its contract: by the lent slice, then by the tests joined, then by whether the entry is the first.
 use native.Mathlib.Omega.{arith}
-use Rattle.text_fields.proofs.Adding.{add_long, add_none, add-onward, add-first, add-behind, add-place, add-count}
+use Rattle.text_fields.proofs.Adding.{add_long, add_none, add_onward, add-first, add-behind, add-place, add-count}
 use borrow.Author.Rules.{rules}
 use Rattle.text_fields.proofs.TextList.with_entry.Statement.{statement}
 use Rattle.text_fields.proofs.TextList.with_entry.Tie as tie
@@ -19,7 +19,7 @@ returns-2 : tie.Need-returns-2
 returns-2 c = search add_none
 
 sub-t17 : tie.Need-overflow-sub-t17
-sub-t17 c = search add-onward
+sub-t17 c = search add_onward
 
 returns-3 : tie.Need-returns-3
 returns-3 c = search add-first

@@ -1,7 +1,7 @@
 -- `text_fields::fields::field_at` meets its contract: by what is left, then by the length, then by the text.
 use mathlib.Core.Path.{refl}
 use native.Mathlib.Omega.{arith}
-use Rattle.text_fields.proofs.Runs.{length_is, length_small, absent, past, garbled, whole-there}
+use Rattle.text_fields.proofs.Runs.{length_is, length_small, absent, past, garbled, whole_there}
 use borrow.Author.Rules.{rules}
 use Rattle.text_fields.proofs.fields.field_at.Statement.{statement}
 use Rattle.text_fields.proofs.fields.field_at.Tie as tie
@@ -33,7 +33,7 @@ returns-5 : tie.Need-returns-5
 returns-5 c =
     let n = c.before.before.before.before in
     let a = n.before.before.before.before.before.args in
-    whole-there _ _ (length_is a.s.now a.at refl n.number.ensures.0) (omega arith) c.before.well-formed-2.ensures.0 (omega arith) c.if4.false
+    whole_there _ _ (length_is a.s.now a.at refl n.number.ensures.0) (omega arith) c.before.well-formed-2.ensures.0 (omega arith) c.if4.false
 
 pub field-at-spec : {M : Type 1} → statement M
 field-at-spec =

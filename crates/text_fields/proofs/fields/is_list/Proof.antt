@@ -3,7 +3,7 @@ use native.Mathlib.Omega.{arith}
 use Prim.Native.Nat.{ℕ, ◌-◌, ◌≤◌}
 use mathlib.Core.Path.{◌≡◌, ap, sym, refl}
 use Rattle.text_fields.specs.Fields.{entries}
-use Rattle.text_fields.proofs.Runs.{whole_end, stop, go_on, fail, full, grows, list_empty, list-run, list-short, list-broken}
+use Rattle.text_fields.proofs.Runs.{whole_end, stop, go_on, fail, full, grows, list_empty, list_run, list_short, list_broken}
 use borrow.Author.Rules.{rules}
 use Rattle.text_fields.proofs.fields.is_list.Statement.{statement}
 use Rattle.text_fields.proofs.fields.is_list.Tie as tie
@@ -25,7 +25,7 @@ returns-2 c =
     let f = c.before.before in
     let l = f.before.before in
     let b = l.before in
-    list-short _ _ _ b.before.is-empty.ensures b.if1.false _ _ f.before.loop-test.true
+    list_short _ _ _ b.before.is-empty.ensures b.if1.false _ _ f.before.loop-test.true
     (stop _ _ _ _ f.before.loop-test.true l.loop.invariant.1 f.field_at.ensures c.enum_told.given.1)
 
 add-next : tie.Need-overflow-add-next invariant-loop decreases-loop
@@ -41,7 +41,7 @@ returns-3 c =
     let f = c.before.before in
     let l = f.before.before in
     let b = l.before in
-    list-broken _ _ _ b.before.is-empty.ensures b.if1.false _
+    list_broken _ _ _ b.before.is-empty.ensures b.if1.false _
     (fail _ _ _ _ f.before.loop-test.true l.loop.invariant.1 f.field_at.ensures c.enum-told2.given.1)
 
 sub-result : tie.Need-overflow-sub-result invariant-loop decreases-loop
@@ -51,7 +51,7 @@ returns-4 : tie.Need-returns-4 invariant-loop decreases-loop
 returns-4 c =
     let l = c.before in
     let b = l.before in
-    list-run _ _ _ b.before.is-empty.ensures b.if1.false _ _ _ l.loop.invariant.0 c.loop-test.false (full _ _ _ _ c.loop-test.false l.loop.invariant.1) refl
+    list_run _ _ _ b.before.is-empty.ensures b.if1.false _ _ _ l.loop.invariant.0 c.loop-test.false (full _ _ _ _ c.loop-test.false l.loop.invariant.1) refl
 
 pub is-list-spec : {M : Type 1} → statement M
 is-list-spec =

@@ -2,7 +2,7 @@
 use native.Mathlib.Nat.{add-sub_cancel_left}
 use mathlib.Core.Path.{sym, ◌∙◌}
 use borrow.Author.Rules.{rules}
-use Rattle.ue_ip_address.proofs.Returns.{too_long, no_head, forbidden, free_of, no-ipv4, no-ipv6, no_bits, no-prefix, whole}
+use Rattle.ue_ip_address.proofs.Returns.{too_long, no_head, forbidden, free_of, no_ipv4, no_ipv6, no_bits, no-prefix, whole}
 use Rattle.ue_ip_address.proofs.UeIpAddress.unmarshal.Statement.{statement}
 use Rattle.ue_ip_address.proofs.UeIpAddress.unmarshal.Tie as tie
 
@@ -16,10 +16,10 @@ returns-3 : tie.Need-returns-3
 returns-3 c = search forbidden
 
 returns-4 : tie.Need-returns-4
-returns-4 c = search (no-ipv4, free_of)
+returns-4 c = search (no_ipv4, free_of)
 
 returns-5 : tie.Need-returns-5
-returns-5 c = search (no-ipv6, free_of)
+returns-5 c = search (no_ipv6, free_of)
 
 returns-6 : tie.Need-returns-6
 returns-6 c = search (no_bits, free_of)

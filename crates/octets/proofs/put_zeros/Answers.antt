@@ -1,0 +1,37 @@
+-- `octets::put_zeros` meets its contract. The invariant: the zeros that are left, put now, give the same output as putting all at first.
+use Prim.Native.Nat.{ℕ, ◌-◌, ◌≤◌}
+use mathlib.Core.Path.{◌≡◌, refl, sym, ap, ◌∙◌}
+use mathlib.Core.List.{List}
+use native.Mathlib.Omega.{arith}
+use lib.ListN.{length, replicate, length-set}
+use Rattle.octets.specs.Octets.{over, put}
+use Rattle.octets.proofs.Laws.{over_nil, zeros_step, zeros_all, zeros_not}
+use Rattle.octets.proofs.put_zeros.Goals as goal
+
+-- none is left
+all-zeros : (e : ℕ) (d d' : List ℕ) (at i : ℕ) → e ≤ i → e ≤ length d → over d' i (replicate (e - i) 0) ≡ over d at (replicate (e - at) 0) → d' ≡ put d at (replicate (e - at) 0)
+all-zeros e d d' at i h r q = let none : e - i ≡ 0 = omega arith in sym (over_nil d' i) ∙ ap (λ (n : ℕ). over d' i (replicate n 0)) (sym none) ∙ q ∙ zeros_all d at e r
+
+pub returns-then-out-end : goal.returns-then-out-end
+returns-then-out-end c = zeros_not _ _ _ c.if-out-end.true
+
+pub loop-i-init : goal.loop-i-init
+loop-i-init c = (refl, refl)
+
+pub bounds-out-i : goal.bounds-out-i
+bounds-out-i c = omega arith
+
+pub overflow_add-i : goal.overflow_add-i
+overflow_add-i c = omega arith
+
+pub loop-i-smaller : goal.loop-i-smaller
+loop-i-smaller c = omega arith
+
+pub loop-i-preserved : goal.loop-i-preserved
+loop-i-preserved c = (simp length-set c.loop-i.invariant.0, zeros_step _ _ _ (omega arith) (omega arith) ∙ c.loop-i.invariant.1)
+
+pub shape_of-out : goal.shape_of-out
+shape_of-out c = c.loop-i.invariant.0
+
+pub returns : goal.returns
+returns c = all-zeros c.args.end _ _ _ _ (omega arith) (omega arith) c.loop-i.invariant.1
