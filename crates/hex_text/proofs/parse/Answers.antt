@@ -1,0 +1,53 @@
+-- `hex::parse` meets its contract. The invariant: the pairs passed stand in the output, and the others are still to come.
+use Prim.Native.Nat.{◌+◌, ◌-◌, ◌*◌, ◌/◌, ◌≤◌, min}
+use native.Mathlib.Omega.{arith}
+use mathlib.Core.Path.{◌≡◌, refl}
+use lib.ListN.{length}
+use Rattle.hex_text.specs.Hex.{worth}
+use Rattle.hex_text.proofs.Table.{tabled}
+use Rattle.hex_text.proofs.Laws.{worth_or, looked_up, looked_most, Parsed, parsed_none, parsed_bad, parsed_more, parsed_all}
+use borrow.Author.Rules.{rules}
+use Rattle.hex_text.proofs.parse.Goals as goal
+
+pub loop-i-init : goal.loop-i-init
+unfolding worth
+loop-i-init c = (refl, omega arith, c.pairs_in-n.ensures, parsed_none _ _)
+
+pub overflow_cast-b : goal.overflow_cast-b
+overflow_cast-b c = omega (arith, c.shared_slice_known-in-loop-i-1.given (2 * c.loop-i.i))
+
+pub offset_bounds-worths-text : goal.offset_bounds-worths-text
+offset_bounds-worths-text c = omega (arith, c.shared_slice_known-in-loop-i-1.given (2 * c.loop-i.i))
+
+pub bounds-worths-text : goal.bounds-worths-text
+bounds-worths-text c = omega (arith, c.shared_slice_known-in-loop-i-1.given (2 * c.loop-i.i))
+
+pub overflow_mul-b-in-loop-i : goal.overflow_mul-b-in-loop-i
+overflow_mul-b-in-loop-i c = omega (arith, looked_most _ _ c.loop-i.invariant.0 (c.shared_slice_known-in-loop-i-1.given (2 * c.loop-i.i)).fits)
+
+pub overflow_cast-b-in-loop-i : goal.overflow_cast-b-in-loop-i
+overflow_cast-b-in-loop-i c = omega (arith, c.shared_slice_known-in-loop-i-2-1.given (2 * c.loop-i.i + 1))
+
+pub offset_bounds-worths-text-in-loop-i : goal.offset_bounds-worths-text-in-loop-i
+offset_bounds-worths-text-in-loop-i c = omega (arith, c.shared_slice_known-in-loop-i-2-1.given (2 * c.loop-i.i + 1))
+
+pub bounds-worths-text-in-loop-i : goal.bounds-worths-text-in-loop-i
+bounds-worths-text-in-loop-i c = omega (arith, c.shared_slice_known-in-loop-i-2-1.given (2 * c.loop-i.i + 1))
+
+pub overflow_add-b-in-loop-i : goal.overflow_add-b-in-loop-i
+overflow_add-b-in-loop-i c =
+    omega (arith, looked_most _ _ c.loop-i.invariant.0 (c.shared_slice_known-in-loop-i-1.given (2 * c.loop-i.i)).fits, looked_most _ _ c.loop-i.invariant.0 (c.shared_slice_known-in-loop-i-2-1.given (2 * c.loop-i.i + 1)).fits)
+
+pub returns-then-b-gt255 : goal.returns-then-b-gt255
+returns-then-b-gt255 c =
+    let high = looked_up _ _ c.loop-i.invariant.0 (c.shared_slice_known-in-loop-i-1.given (2 * c.loop-i.i)).fits in
+    let low = looked_up _ _ c.loop-i.invariant.0 (c.shared_slice_known-in-loop-i-2-1.given (2 * c.loop-i.i + 1)).fits in let all_of_it = parsed_bad _ _ _ c.loop-i.i c.loop-i.invariant.3 (omega arith) (omega arith) _ _ high low c.if-b-gt255.true in record { value = all_of_it.0; out_after = all_of_it.1.0; upper_bound = all_of_it.1.1 }
+
+pub loop-i-preserved : goal.loop-i-preserved
+loop-i-preserved c =
+    let high = looked_up _ _ c.loop-i.invariant.0 (c.shared_slice_known-in-loop-i-1.given (2 * c.loop-i.i)).fits in
+    let low = looked_up _ _ c.loop-i.invariant.0 (c.shared_slice_known-in-loop-i-2-1.given (2 * c.loop-i.i + 1)).fits in
+    (c.loop-i.invariant.0, omega arith, c.loop-i.invariant.2, parsed_more _ _ _ c.loop-i.i c.loop-i.invariant.3 (omega arith) (omega arith) _ _ high low c.if-b-gt255.false)
+
+pub returns : goal.returns
+returns c = let all_of_it = parsed_all _ _ _ c.loop-i.i c.loop-i.invariant.3 c.loop-i.invariant.1 (omega arith) in record { value = all_of_it.0; out_after = all_of_it.1.0; upper_bound = all_of_it.1.1 }

@@ -1,0 +1,15 @@
+use Prim.Native.Nat.{◌+◌, ◌-◌, ◌*◌, ◌/◌, ◌≤◌, min}
+use native.Mathlib.Omega.{arith}
+use mathlib.Core.Path.{◌≡◌, refl}
+use lib.ListN.{length}
+use Rattle.hex_text.specs.Hex.{worth}
+use Rattle.hex_text.proofs.Table.{tabled}
+use Rattle.hex_text.proofs.Laws.{worth_or, looked_up, looked_most, Parsed, parsed_none, parsed_bad, parsed_more, parsed_all}
+use borrow.Author.Rules.{rules}
+use Rattle.hex_text.proofs.parse.Given as goal
+
+abbrev pub invariant-loop-i : goal.invariant-loop-i
+invariant-loop-i l = (l.worths ≡ tabled worth_or 0 256) × (l.i ≤ length l.initial.out) × (l.n ≡ min (length l.initial.out) (length l.text / 2)) × Parsed l.text l.initial.out l.out l.i
+
+abbrev pub decreases-loop-i : goal.decreases-loop-i
+decreases-loop-i l = l.n - l.i

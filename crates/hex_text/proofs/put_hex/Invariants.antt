@@ -1,0 +1,17 @@
+use Prim.Native.Nat.{◌+◌, ◌-◌, ◌*◌, ◌≤◌}
+use native.Mathlib.Nat.{add-zero}
+use native.Mathlib.Omega.{arith}
+use mathlib.Core.Path.{◌≡◌, refl, sym, ◌∙◌}
+use lib.ListN.{length, drop, length-set}
+use Rattle.octets.specs.Octets.{put}
+use Rattle.octets.proofs.Laws.{put_not}
+use Rattle.hex_text.specs.Hex.{spelled}
+use Rattle.hex_text.proofs.Laws.{length_spelled, spelled_more, spelled_all}
+use borrow.Author.Rules.{rules}
+use Rattle.hex_text.proofs.put_hex.Given as goal
+
+abbrev pub invariant-loop-i : goal.invariant-loop-i
+invariant-loop-i l = (l.i ≤ length l.bs) × (l.at + 2 * length l.bs ≤ length l.out) × (length l.out ≡ length l.initial.out) × (put l.out (l.at + 2 * l.i) (spelled (drop l.i l.bs)) ≡ put l.initial.out l.at (spelled l.bs))
+
+abbrev pub decreases-loop-i : goal.decreases-loop-i
+decreases-loop-i l = length l.bs - l.i
