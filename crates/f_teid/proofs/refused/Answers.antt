@@ -1,0 +1,8 @@
+-- `f_teid::refused` meets its contract.
+use borrow.Author.Rules.{rules}
+use Rattle.f_teid.specs.Fteid.{refused}
+use Rattle.f_teid.proofs.refused.Goals as goal
+
+pub returns : goal.returns
+unfolding refused
+returns c = rw c.empty-record.ensures

@@ -1,0 +1,8 @@
+-- `header::refused` meets its contract.
+use mathlib.Core.Path.{refl}
+use Rattle.header.specs.Header.{refused}
+use Rattle.header.proofs.refused.Goals as goal
+
+pub returns : goal.returns
+unfolding refused
+returns c = refl

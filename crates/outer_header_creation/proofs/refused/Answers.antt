@@ -1,0 +1,8 @@
+-- `outer_header_creation::refused` meets its contract.
+use Rattle.outer_header_creation.specs.OuterHeaderCreation.{refused}
+use borrow.Author.Rules.{rules}
+use Rattle.outer_header_creation.proofs.refused.Goals as goal
+
+pub returns : goal.returns
+unfolding refused
+returns c = rw c.new-record.ensures
