@@ -36,13 +36,11 @@ module _ (r : Fteid) (u4 u6 : ℕ) (ch : r.ch ≡ false) (e4 : u4 ≡ if_set r.i
       rw formed
       (form_row (first r) 4 r.teid.0 r.ipv4_address r.ipv6_address u4 u6 e4 e6 l4 l6 d d1 d2 d3 d4 (rw (g ∙ flags_padded (r.v4 ∷ r.v6 ∷ false ∷ false ∷ []) 4) at q1) q2 q3 q4)
 
--- the arrays are as long as their types say
-lengths : (c : goal.Start) → (length c.args.r.ipv4_address.octets ≡ 4) × (length c.args.r.ipv6_address.octets ≡ 16)
-lengths c = (search rules, search rules)
-
 pub returns-then-out-end6 : goal.returns-then-out-end6
 returns-then-out-end6 c =
-    let (l4, l6) = lengths c in let all_of_it = no_room _ _ _ (long _ _ _ c.requires c.if_set-end4.ensures.value c.if_set.ensures.value l4 l6) c.if-out-end6.true in record { value = all_of_it.0; out_after = all_of_it.1 }
+    let l4 : length c.args.r.ipv4_address.octets ≡ 4 = search rules in
+    let l6 : length c.args.r.ipv6_address.octets ≡ 16 = search rules in
+    let both = no_room _ _ _ (long _ _ _ c.requires c.if_set-end4.ensures.value c.if_set.ensures.value l4 l6) c.if-out-end6.true in record { value = both.0; out_after = both.1 }
 
 pub returns : goal.returns
 returns c =
@@ -50,5 +48,7 @@ returns c =
     let ch = c.requires in
     let e4 = c.if_set-end4.ensures.value in
     let e6 = c.if_set.ensures.value in
-    let (l4, l6) = lengths c in let all_of_it = all_put _ _ _ (long r _ _ ch e4 e6 l4 l6) _ c.if-out-end6.false
-    (row r _ _ ch e4 e6 l4 l6 _ _ _ _ _ _ c.flag_byte-flags.ensures c.put_byte.ensures c.put_number.ensures c.put_ipv4.ensures c.put_ipv6.ensures) in record { value = all_of_it.0; out_after = all_of_it.1 }
+    let l4 : length c.args.r.ipv4_address.octets ≡ 4 = search rules in
+    let l6 : length c.args.r.ipv6_address.octets ≡ 16 = search rules in
+    let both = all_put _ _ _ (long r _ _ ch e4 e6 l4 l6) _ c.if-out-end6.false
+    (row r _ _ ch e4 e6 l4 l6 _ _ _ _ _ _ c.flag_byte-flags.ensures c.put_byte.ensures c.put_number.ensures c.put_ipv4.ensures c.put_ipv6.ensures) in record { value = both.0; out_after = both.1 }

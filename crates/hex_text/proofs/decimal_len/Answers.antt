@@ -1,5 +1,5 @@
 -- `hex::decimal_len` meets its contract. The invariant: the digits passed, and those of the rest, one counted twice.
-use Prim.Native.Nat.{◌+◌, ◌≤◌}
+use Prim.Native.Nat.{ℕ, ◌+◌, ◌≤◌, ◌<◌}
 use native.Mathlib.Omega.{arith}
 use mathlib.Core.Path.{◌≡◌}
 use lib.ListN.{length}
@@ -9,17 +9,17 @@ use borrow.Author.Rules.{rules}
 use Rattle.hex_text.proofs.decimal_len.Goals as goal
 
 -- a number of 64 bits has at most 20 digits
-most : (c : goal.Start) → length (decimal c.args.n) ≤ 20
-most c = decimal_most 19 c.args.n (omega arith)
+most : (n : ℕ) → n < 18446744073709551616 → length (decimal n) ≤ 20
+most n h = decimal_most 19 n (omega arith)
 
 pub loop-rest-init : goal.loop-rest-init
 loop-rest-init c = omega arith
 
 pub overflow_add-len : goal.overflow_add-len
-overflow_add-len c = omega (arith, decimal_some c.loop-rest.rest, most c)
+overflow_add-len c = omega (arith, decimal_some c.loop-rest.rest, most c.args.n (omega arith))
 
 pub loop-rest-preserved : goal.loop-rest-preserved
 loop-rest-preserved c = omega (arith, length_last c.loop-rest.rest (omega arith))
 
 pub returns : goal.returns
-returns c = omega (arith, length_one c.loop-rest.rest (omega arith), most c)
+returns c = omega (arith, length_one c.loop-rest.rest (omega arith), most c.args.n (omega arith))

@@ -9,14 +9,13 @@ use Rattle.node_id.proofs.Writing.{short_address, done_address, put_new}
 use borrow.Author.Rules.{rules}
 use Rattle.node_id.proofs.write_ipv4.Goals as goal
 
--- the array is as long as its type says
-long : (c : goal.Start) → length c.args.addr ≡ 4
-long c = search rules
-
 pub returns-then-out-lt5 : goal.returns-then-out-lt5
-returns-then-out-lt5 c = let all_of_it = short_address 0 4 c.args.addr _ (long c) (omega arith) c.if-out-lt5.true in record { value = all_of_it.0; out_after = all_of_it.1 }
+returns-then-out-lt5 c =
+    let long : length c.args.addr ≡ 4 = search rules in
+    let both = short_address 0 4 c.args.addr _ long (omega arith) c.if-out-lt5.true in record { value = both.0; out_after = both.1 }
 
 pub returns : goal.returns
 returns c =
-    let typed : c.put_byte.new.0 ≡ put c.args.out.now 0 (0 ∷ []) = c.put_byte.ensures in
-    let address = put_new (λ (a : MaybeIpv4). a.given) (λ (a : MaybeIpv4). a.octets) _ _ _ _ c.new.ensures refl c.put_ipv4.ensures in let all_of_it = done_address 0 4 _ _ (long c) (omega arith) _ _ c.if-out-lt5.false typed address in record { value = all_of_it.0; out_after = all_of_it.1 }
+    let long : length c.args.addr ≡ 4 = search rules in
+    let typed : c.put_byte.new.out ≡ put c.args.out.now 0 (0 ∷ []) = c.put_byte.ensures in
+    let address = put_new (λ (a : MaybeIpv4). a.given) (λ (a : MaybeIpv4). a.octets) _ _ _ _ c.new.ensures refl c.put_ipv4.ensures in let both = done_address 0 4 _ _ long (omega arith) _ _ c.if-out-lt5.false typed address in record { value = both.0; out_after = both.1 }

@@ -22,13 +22,13 @@ module _ (texts : List ℕ) (r : NodeId) where
   Left k bs = (write_refusal texts r ≡ too_long_output (length (k ∷ bs))) × (wire (meaning texts r) ≡ k ∷ bs)
 
   module _ (f : length texts ≤ 65535) where
-    by-ipv4 : r.kind ≡ Ipv4 → Left 0 r.ipv4_address
+    by_ipv4 : r.kind ≡ Ipv4 → Left 0 r.ipv4_address
     unfolding write_refusal ◌then◌ textual meaning meant wire
-    by-ipv4 k = (rw (le-leb _ _ f, k), rw k)
+    by_ipv4 k = (rw (le-leb _ _ f, k), rw k)
 
-    by-ipv6 : r.kind ≡ Ipv6 → Left 1 r.ipv6_address
+    by_ipv6 : r.kind ≡ Ipv6 → Left 1 r.ipv6_address
     unfolding write_refusal ◌then◌ textual meaning meant wire
-    by-ipv6 k = (rw (le-leb _ _ f, k), rw k)
+    by_ipv6 k = (rw (le-leb _ _ f, k), rw k)
 
     by_name : (t : Bool) (bs : List ℕ) → r.kind ≡ Fqdn → t ≡ is_text texts r.name → not t ≡ false → bs ≡ bytes_of_text texts r.name → Left 2 bs
     unfolding write_refusal ◌then◌ textual meaning meant wire
@@ -52,19 +52,19 @@ module _ (texts : List ℕ) (r : NodeId) where
     wrote k bs (t, b) (p, q) = (rw (t, b) p, rw (t, b) q)
 
 pub returns-then-n-gt65535 : goal.returns-then-n-gt65535
-returns-then-n-gt65535 c = let all_of_it = long5 _ _ _ c.if-n-gt65535.true in record { value = all_of_it.0; out_after = all_of_it.1 }
+returns-then-n-gt65535 c = let both = long5 _ _ _ c.if-n-gt65535.true in record { value = both.0; out_after = both.1 }
 
 pub returns-then-not-is_good : goal.returns-then-not-is_good
-returns-then-not-is_good c = let all_of_it = bad6 _ _ _ c.if-n-gt65535.false _ c.enum_told-in-Fqdn-1.given.1 c.is_good.ensures c.if-not-is_good.true-raw in record { value = all_of_it.0; out_after = all_of_it.1 }
+returns-then-not-is_good c = let both = bad6 _ _ _ c.if-n-gt65535.false _ c.in-Fqdn.is c.is_good.ensures c.if-not-is_good.true-raw in record { value = both.0; out_after = both.1 }
 
 pub returns-in-Ipv4 : goal.returns-in-Ipv4
 returns-in-Ipv4 c =
-    let f = c.if-n-gt65535.false in let all_of_it = wrote _ _ _ _ _ (by-ipv4 _ _ f c.enum_told.given.1) c.write_ipv4.ensures in record { value = all_of_it.0; out_after = all_of_it.1 }
+    let f = c.if-n-gt65535.false in let both = wrote _ _ _ _ _ (by_ipv4 _ _ f c.in-Ipv4.is) (c.write_ipv4.ensures.value, c.write_ipv4.ensures.out_after) in record { value = both.0; out_after = both.1 }
 
 pub returns-in-Ipv6 : goal.returns-in-Ipv6
 returns-in-Ipv6 c =
-    let f = c.if-n-gt65535.false in let all_of_it = wrote _ _ _ _ _ (by-ipv6 _ _ f c.enum_told-in-Ipv6-1.given.1) c.write_ipv6.ensures in record { value = all_of_it.0; out_after = all_of_it.1 }
+    let f = c.if-n-gt65535.false in let both = wrote _ _ _ _ _ (by_ipv6 _ _ f c.in-Ipv6.is) (c.write_ipv6.ensures.value, c.write_ipv6.ensures.out_after) in record { value = both.0; out_after = both.1 }
 
 pub returns-else-not-is_good : goal.returns-else-not-is_good
 returns-else-not-is_good c =
-    let f = c.if-n-gt65535.false in let all_of_it = wrote _ _ _ _ _ (by_name _ _ f _ _ c.enum_told-in-Fqdn-1.given.1 c.is_good.ensures c.if-not-is_good.false-raw c.of.ensures) c.write_typed.ensures in record { value = all_of_it.0; out_after = all_of_it.1 }
+    let f = c.if-n-gt65535.false in let both = wrote _ _ _ _ _ (by_name _ _ f _ _ c.in-Fqdn.is c.is_good.ensures c.if-not-is_good.false-raw c.of.ensures) (c.write_typed.ensures.value, c.write_typed.ensures.out_after) in record { value = both.0; out_after = both.1 }

@@ -96,64 +96,32 @@ module _ (r : OuterHeaderCreation) (teid port : ℕ) (w : SentFields) where
       long : length (wire (meaning r)) ≡ e.stag
       long = ap length (sym (whole tq pq wq)) ∙ count
 
-      put-so : (d' : List ℕ) → Puts d 0 (flatten pieces) d' → Puts d 0 (wire (meaning r)) d'
-      put-so d' p = rw (whole tq pq wq) at p
-
--- the arrays are as long as their types say
-lengths : (c : goal.Start) → (length c.args.self.ipv4_address.octets ≡ 4) × (length c.args.self.ipv6_address.octets ≡ 16)
-lengths c = (search rules, search rules)
-
--- the places behind the puts, the last one first
-module _ (c : goal.After-slice_known-9-1) where
-  abbrev put-stag : goal.After-put_number_given-4
-  put-stag = c.before.before
-
-  abbrev put-ctag : goal.After-put_number_given-3
-  put-ctag = put-stag.before.before.before.before
-
-  abbrev put-port : goal.After-put_number_given-2
-  put-port = put-ctag.before.before.before.before
-
-  abbrev put-ipv6 : goal.After-put_ipv6
-  put-ipv6 = put-port.before.before.before.before
-
-  abbrev put-ipv4 : goal.After-put_ipv4
-  put-ipv4 = put-ipv6.before.before.before.before
-
-  abbrev put-teid : goal.After-put_number_given
-  put-teid = put-ipv4.before.before.before.before
-
-  abbrev put-spare : goal.After-put_byte-2
-  put-spare = put-teid.before.before.before.before
-
-  abbrev put-flags : goal.After-put_byte
-  put-flags = put-spare.before.before.before.before
+      put_so : (d' : List ℕ) → Puts d 0 (flatten pieces) d' → Puts d 0 (wire (meaning r)) d'
+      put_so d' p = rw (whole tq pq wq) at p
 
 pub overflow_cast-stag : goal.overflow_cast-stag
 overflow_cast-stag c = search (rules, c.struct_known-4-1.given.1.1.1.1.1.1.0)
 
 pub returns-then-out-len : goal.returns-then-out-len
 returns-then-out-len c =
-    let (l4, l6) = lengths c in let all_of_it = no_room _ _ _ (long _ _ _ _ c.args.out.now _ c.ends-ends.ensures.value l4 l6 c.if_set-teid.ensures.value c.if_set-port.ensures.value c.sends-sends.ensures) c.if-out-len.true in record { value = all_of_it.0; out_after = all_of_it.1 }
+    let l4 : length c.args.self.ipv4_address.octets ≡ 4 = search rules in
+    let l6 : length c.args.self.ipv6_address.octets ≡ 16 = search rules in
+    let both = no_room _ _ _ (long _ _ _ _ c.args.out.now _ c.ends-ends.ensures.value l4 l6 c.if_set-teid.ensures.value c.if_set-port.ensures.value c.sends-sends.ensures) c.if-out-len.true in record { value = both.0; out_after = both.1 }
 
 pub shape_of-out : goal.shape_of-out
 shape_of-out c =
-    omega (arith, (put-flags c).put_byte.auto.0, (put-spare c).put-byte2.auto.0, (put-teid c).put-number-given.auto.0, (put-ipv4 c).put-ipv4.auto.0, (put-ipv6 c).put-ipv6.auto.0, (put-port c).put-number-given2.auto.0, (put-ctag c).put-number-given3.auto.0, (put-stag c).put-number-given4.auto.0)
+    omega (arith, c.put_byte.auto.out, c.put_byte-2.auto.out, c.put_number_given.auto.out, c.put_ipv4.auto.out, c.put_ipv6.auto.out, c.put_number_given-2.auto.out, c.put_number_given-3.auto.out, c.put_number_given-4.auto.out)
 
 pub returns : goal.returns
 returns c =
-    let room = (put-flags c).before.before.before in
-    let ends = room.before in
-    let sent = ends.before.before.before in
-    let port = sent.before.before.before.before in
-    let teid = port.before.before in
-    let start = teid.before.before.before in
-    let r = start.args.self in
-    let d = start.args.out.now in
-    let (l4, l6) = lengths start in
-    let tq = teid.if_set-teid.ensures.value in
-    let pq = port.if_set-port.ensures.value in
-    let wq = sent.sends-sends.ensures in
-    let eq = ends.ends-ends.ensures.value in
-    let fits = room.if-out-len.false in
-    let all = row r _ _ _ d _ eq l4 l6 _ _ _ _ _ _ _ _ _ (put-flags c).before.byte.ensures (put-flags c).put_byte.ensures (put-spare c).put-byte2.ensures (put-teid c).put-number-given.ensures (put-ipv4 c).put-ipv4.ensures (put-ipv6 c).put-ipv6.ensures (put-port c).put-number-given2.ensures (put-ctag c).put-number-given3.ensures (put-stag c).put-number-given4.ensures in let all_of_it = all_put d _ _ (long r _ _ _ d _ eq l4 l6 tq pq wq) _ fits (put-so r _ _ _ d _ eq l4 l6 tq pq wq _ all) in record { value = all_of_it.0; out_after = all_of_it.1 }
+    let r = c.args.self in
+    let d = c.args.out.now in
+    let l4 : length r.ipv4_address.octets ≡ 4 = search rules in
+    let l6 : length r.ipv6_address.octets ≡ 16 = search rules in
+    let tq = c.if_set-teid.ensures.value in
+    let pq = c.if_set-port.ensures.value in
+    let wq = c.sends-sends.ensures in
+    let eq = c.ends-ends.ensures.value in
+    let all = row r _ _ _ d _ eq l4 l6 _ _ _ _ _ _ _ _ _ c.byte.ensures c.put_byte.ensures c.put_byte-2.ensures c.put_number_given.ensures c.put_ipv4.ensures c.put_ipv6.ensures c.put_number_given-2.ensures c.put_number_given-3.ensures c.put_number_given-4.ensures in
+    let both = all_put d _ _ (long r _ _ _ d _ eq l4 l6 tq pq wq) _ c.if-out-len.false (put_so r _ _ _ d _ eq l4 l6 tq pq wq _ all) in
+    record { value = both.0; out_after = both.1 }

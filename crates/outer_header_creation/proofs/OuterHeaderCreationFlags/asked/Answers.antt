@@ -5,8 +5,6 @@ use Rattle.outer_header_creation.specs.OuterHeaderCreation.{Flags, asked}
 use borrow.Author.Rules.{rules}
 use Rattle.outer_header_creation.proofs.OuterHeaderCreationFlags.asked.Goals as goal
 
-}
-
 each : (f : Flags) (t x4 v4 x6 v6 p : Bool)
     → t ≡ f.gtpu_udp_ipv4 || f.gtpu_udp_ipv6
     → x4 ≡ f.gtpu_udp_ipv4 || f.udp_ipv4 → v4 ≡ x4 || f.ipv4

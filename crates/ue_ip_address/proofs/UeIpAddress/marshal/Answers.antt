@@ -61,26 +61,18 @@ module _ (r : UeIpAddress) (u4 u6 ub up : ℕ) (w : Widths r u4 u6 ub up) where
       (then _ (1 + u4 + u6 + ub) q4 (omega (arith, w.bits))
       (ends q5))))
 
--- the arrays are as long as their types say
-lengths : (c : goal.Start) → (length c.args.self.ipv4_address.octets ≡ 4) × (length c.args.self.ipv6_address.octets ≡ 16)
-lengths c = (search rules, search rules)
-
--- what is known of the widths where all the ends are
-widened : (c : goal.After-if_set-3) →
-    Widths c.args.self c.if_set-end4.result c.if_set.result c.if_set-2.result c.if_set-3.result
-widened c =
-    let u3 = c.before in
-    let u2 = u3.before in
-    let u1 = u2.before in
-    let start = u1.before.before.before.before.before.before in
-    let (l4, l6) = lengths start in
-    widths start.args.self _ _ _ _ l4 l6 u1.if_set-end4.ensures.value u2.if_set.ensures.value u3.if_set-2.ensures.value c.if_set-3.ensures.value
-
 pub returns-then-out-end : goal.returns-then-out-end
-returns-then-out-end c = let all_of_it = no_room _ _ _ (long _ _ _ _ _ (widened c)) c.if-out-end.true in record { value = all_of_it.0; out_after = all_of_it.1 }
+returns-then-out-end c =
+    let l4 : length c.args.self.ipv4_address.octets ≡ 4 = search rules in
+    let l6 : length c.args.self.ipv6_address.octets ≡ 16 = search rules in
+    let w = widths c.args.self _ _ _ _ l4 l6 c.if_set-end4.ensures.value c.if_set.ensures.value c.if_set-2.ensures.value c.if_set-3.ensures.value in
+    let both = no_room _ _ _ (long _ _ _ _ _ w) c.if-out-end.true in record { value = both.0; out_after = both.1 }
 
 pub returns : goal.returns
 returns c =
     let r = c.args.self in
-    let w = widened c in let all_of_it = all_put _ _ _ (long r _ _ _ _ w) _ c.if-out-end.false
-    (row r _ _ _ _ w _ _ _ _ _ _ _ c.flag_byte-flags.ensures c.put_byte.ensures c.put_ipv4.ensures c.put_ipv6.ensures c.put_number_given.ensures c.put_number_given-2.ensures) in record { value = all_of_it.0; out_after = all_of_it.1 }
+    let l4 : length c.args.self.ipv4_address.octets ≡ 4 = search rules in
+    let l6 : length c.args.self.ipv6_address.octets ≡ 16 = search rules in
+    let w = widths c.args.self _ _ _ _ l4 l6 c.if_set-end4.ensures.value c.if_set.ensures.value c.if_set-2.ensures.value c.if_set-3.ensures.value in
+    let both = all_put _ _ _ (long r _ _ _ _ w) _ c.if-out-end.false
+    (row r _ _ _ _ w _ _ _ _ _ _ _ c.flag_byte-flags.ensures c.put_byte.ensures c.put_ipv4.ensures c.put_ipv6.ensures c.put_number_given.ensures c.put_number_given-2.ensures) in record { value = both.0; out_after = both.1 }
