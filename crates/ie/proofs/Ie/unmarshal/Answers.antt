@@ -1,0 +1,18 @@
+-- `ie::Ie::unmarshal` meets its contract: 5, then what the tests say, then the record.
+use borrow.Author.Rules.{rules}
+use Rattle.ie.proofs.Envelopes.{ends, too_long, refused_one, found_one}
+use Rattle.ie.proofs.Ie.unmarshal.Goals as goal
+
+pub returns-then-n-gt65535 : goal.returns-then-n-gt65535
+returns-then-n-gt65535 c = search too_long
+
+pub record_at-requires : goal.record_at-requires
+record_at-requires c =
+    let x = c.args in
+    (ends x.zero-types.now x.s.now c.end_of_lem.ensures c.end.given.1).0
+
+pub returns-in-Refused : goal.returns-in-Refused
+returns-in-Refused c = search refused_one
+
+pub returns-in-Whole : goal.returns-in-Whole
+returns-in-Whole c = search found_one

@@ -1,0 +1,14 @@
+use borrow.Author.Rules.{rules}
+use native.Mathlib.Omega.{arith}
+use Prim.Native.Nat.{◌≤◌, ◌-◌}
+use mathlib.Core.Path.{◌≡◌, refl}
+use lib.ListN.{length, length-set}
+use Rattle.ie.specs.Ie.{ies, filled}
+use Rattle.ie.proofs.Tables.{Left, starts, is_whole, has_room, fill_end, fill_bounds, fill_step}
+use Rattle.ie.proofs.fill.Given as goal
+
+abbrev pub invariant-loop-at : goal.invariant-loop-at
+invariant-loop-at l = (l.at ≤ length l.body) × (l.row ≤ l.at) × (length l.table ≡ length l.initial.table) × Left l.zero_types l.body l.at l.table l.row (filled l.initial.table (ies l.zero_types 0 l.body))
+
+abbrev pub decreases-loop-at : goal.decreases-loop-at
+decreases-loop-at l = length l.body - l.at

@@ -1,0 +1,11 @@
+-- `text_fields::Fault::answer` meets its contract: case by case.
+use mathlib.Core.Path.{sym, ap}
+use Rattle.text_fields.specs.Fields.{answer_of}
+use borrow.Author.Rules.{rules}
+use Rattle.text_fields.proofs.Fault.answer.Goals as goal
+
+pub returns-in-Past : goal.returns-in-Past
+returns-in-Past c = ap answer_of (sym c.self.given.1)
+
+pub returns-in-Garbled : goal.returns-in-Garbled
+returns-in-Garbled c = ap answer_of (sym c.self-in-Garbled-1.given.1)
