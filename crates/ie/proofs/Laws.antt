@@ -19,7 +19,7 @@ use Rattle.ie.specs.declared.IesRead.{IesRead}
 use Rattle.ie.specs.declared.Envelope.{Envelope}
 use Rattle.ie.specs.declared.Envelope.TheVariants.{Whole, Refused}
 use Rattle.ie.specs.Ie.{Rows, all, guilty, before, on_envelope, pair_at, type_of, extra, record_of, row_of, envelope, found, read, refused, ies, done_with, refused_at, answered, read_all, filled, tabled}
-use Rattle.ie.specs.Laws.{OneAfterAnother, Covers, Numbered, Owed, Laws}
+use Rattle.ie.specs.Laws.{place_in, len_in, OneAfterAnother, Covers, Numbered, Owed, Laws}
 
 -- ---- one IE after another
 
@@ -99,7 +99,7 @@ worth zs =
 
 covers_up : (at : ℕ) (rows : Table) (last : ℕ) → Covers at rows last → at ≤ last
 covers_up at [] last c = omega (arith, c)
-covers_up at (row ∷ rows) last c = omega (arith, c.0, covers_up _ rows last c.1)
+covers_up at (row ∷ rows) last c = omega (arith, c.0, covers_up (place_in row + len_in row) rows last c.1)
 
 some_covered : (rows : Table) (last : ℕ) → Covers 0 rows last → 0 < length rows → 0 < last
 some_covered [] last c h = absurd (omega arith)

@@ -14,24 +14,24 @@ loop-at-init c = (omega arith, omega arith, refl, starts _ _ _ c.requires.table_
 pub record_at-ie-requires : goal.record_at-ie-requires
 record_at-ie-requires c =
     let x = c.args in
-    is_whole x.zero-types.now x.body.now c.loop-at.at c.loop-at.table c.loop-at.row c.loop-at.invariant.3 c.loop-at-test.true
+    is_whole x.zero_types.now x.body.now c.loop-at.at c.loop-at.table c.loop-at.row c.loop-at.invariant.3 c.loop-at-test.true
 
 pub row_of-requires : goal.row_of-requires
 row_of-requires c =
     let x = c.args in
-    let w = fill_bounds x.zero-types.now x.body.now c.loop-at.at c.loop-at.table c.loop-at.row c.loop-at.invariant.3 c.loop-at-test.true c.record_at-ie.ensures in
+    let w = fill_bounds x.zero_types.now x.body.now c.loop-at.at c.loop-at.table c.loop-at.row c.loop-at.invariant.3 c.loop-at-test.true c.record_at-ie.ensures in
     record { place_bound = omega (arith, w.1, c.requires.body_len_bound); len_bound = omega (arith, w.1, c.requires.body_len_bound) }
 
 pub offset_bounds-table-row : goal.offset_bounds-table-row
 offset_bounds-table-row c =
     let x = c.args in
-    let w = fill_bounds x.zero-types.now x.body.now c.loop-at.at c.loop-at.table c.loop-at.row c.loop-at.invariant.3 c.loop-at-test.true c.record_at-ie.ensures in
+    let w = fill_bounds x.zero_types.now x.body.now c.loop-at.at c.loop-at.table c.loop-at.row c.loop-at.invariant.3 c.loop-at-test.true c.record_at-ie.ensures in
     omega (arith, w.1, c.loop-at.invariant.1, c.requires.body_len_bound)
 
 pub bounds-table-row : goal.bounds-table-row
 bounds-table-row c =
     let x = c.args in
-    has_room x.zero-types.now x.body.now c.loop-at.at c.loop-at.table c.loop-at.row c.loop-at.invariant.3 c.loop-at-test.true
+    has_room x.zero_types.now x.body.now c.loop-at.at c.loop-at.table c.loop-at.row c.loop-at.invariant.3 c.loop-at-test.true
 
 pub overflow_add-row : goal.overflow_add-row
 overflow_add-row c =
@@ -40,29 +40,29 @@ overflow_add-row c =
 pub overflow_add-at : goal.overflow_add-at
 overflow_add-at c =
     let x = c.args in
-    let w = fill_bounds x.zero-types.now x.body.now c.loop-at.at c.loop-at.table c.loop-at.row c.loop-at.invariant.3 c.loop-at-test.true c.record_at-ie.ensures in
+    let w = fill_bounds x.zero_types.now x.body.now c.loop-at.at c.loop-at.table c.loop-at.row c.loop-at.invariant.3 c.loop-at-test.true c.record_at-ie.ensures in
     omega (arith, w.1, c.requires.body_len_bound)
 
 pub overflow_add-at-in-loop-at : goal.overflow_add-at-in-loop-at
 overflow_add-at-in-loop-at c =
     let x = c.args in
-    let w = fill_bounds x.zero-types.now x.body.now c.loop-at.at c.loop-at.table c.loop-at.row c.loop-at.invariant.3 c.loop-at-test.true c.record_at-ie.ensures in
+    let w = fill_bounds x.zero_types.now x.body.now c.loop-at.at c.loop-at.table c.loop-at.row c.loop-at.invariant.3 c.loop-at-test.true c.record_at-ie.ensures in
     omega (arith, w.1, c.requires.body_len_bound)
 
 pub loop-at-smaller : goal.loop-at-smaller
 loop-at-smaller c =
     let x = c.args in
-    let w = fill_bounds x.zero-types.now x.body.now c.loop-at.at c.loop-at.table c.loop-at.row c.loop-at.invariant.3 c.loop-at-test.true c.record_at-ie.ensures in
+    let w = fill_bounds x.zero_types.now x.body.now c.loop-at.at c.loop-at.table c.loop-at.row c.loop-at.invariant.3 c.loop-at-test.true c.record_at-ie.ensures in
     omega (arith, w.0, w.1)
 
 pub loop-at-preserved : goal.loop-at-preserved
 loop-at-preserved c =
     let x = c.args in
-    let w = fill_bounds x.zero-types.now x.body.now c.loop-at.at c.loop-at.table c.loop-at.row c.loop-at.invariant.3 c.loop-at-test.true c.record_at-ie.ensures in (
+    let w = fill_bounds x.zero_types.now x.body.now c.loop-at.at c.loop-at.table c.loop-at.row c.loop-at.invariant.3 c.loop-at-test.true c.record_at-ie.ensures in (
       omega (arith, w.1),
       omega (arith, w.0, c.loop-at.invariant.1),
       simp length-set c.loop-at.invariant.2,
-      fill_step x.zero-types.now x.body.now c.loop-at.at c.loop-at.table c.loop-at.row c.loop-at.invariant.3 c.loop-at-test.true c.record_at-ie.ensures c.row_of.ensures,
+      fill_step x.zero_types.now x.body.now c.loop-at.at c.loop-at.table c.loop-at.row c.loop-at.invariant.3 c.loop-at-test.true c.record_at-ie.ensures c.row_of.ensures,
     )
 
 pub returns : goal.returns

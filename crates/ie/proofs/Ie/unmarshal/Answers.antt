@@ -9,7 +9,7 @@ returns-then-n-gt65535 c = search too_long
 pub record_at-requires : goal.record_at-requires
 record_at-requires c =
     let x = c.args in
-    (ends x.zero-types.now x.s.now c.end_of_lem.ensures c.end.given.1).0
+    (ends x.zero_types.now x.s.now c.end_of.ensures c.in-Whole.is).0
 
 pub returns-in-Refused : goal.returns-in-Refused
 returns-in-Refused c = search refused_one

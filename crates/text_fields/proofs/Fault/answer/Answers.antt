@@ -5,7 +5,7 @@ use borrow.Author.Rules.{rules}
 use Rattle.text_fields.proofs.Fault.answer.Goals as goal
 
 pub returns-in-Past : goal.returns-in-Past
-returns-in-Past c = ap answer_of (sym c.self.given.1)
+returns-in-Past c = ap answer_of (sym c.in-Past.is)
 
 pub returns-in-Garbled : goal.returns-in-Garbled
-returns-in-Garbled c = ap answer_of (sym c.self-in-Garbled-1.given.1)
+returns-in-Garbled c = ap answer_of (sym c.in-Garbled.is)

@@ -9,19 +9,19 @@ pub returns-then-not-bit : goal.returns-then-not-bit
 returns-then-not-bit c = search text_off
 
 pub overflow_add-result : goal.overflow_add-result
-overflow_add-result c = omega (arith, whole_end _ _ c.field_at.ensures c.place.given.1)
+overflow_add-result c = omega (arith, whole_end _ _ c.field_at.ensures c.in-Whole.is)
 
 pub returns-in-Absent : goal.returns-in-Absent
 returns-in-Absent c =
-    text_on _ _ _ _ c.w.given.1 _ c.bit.ensures c.if-not-bit.false-raw _ _ c.field_at.ensures c.enum_told.given.1
+    text_on _ _ _ _ c.in-At.is _ c.bit.ensures c.if-not-bit.false-raw _ _ c.field_at.ensures c.in-Absent.is
 
 pub returns-in-Whole : goal.returns-in-Whole
 returns-in-Whole c =
-    text_on _ _ _ _ c.w.given.1 _ c.bit.ensures c.if-not-bit.false-raw _ _ c.field_at.ensures c.place.given.1
+    text_on _ _ _ _ c.in-At.is _ c.bit.ensures c.if-not-bit.false-raw _ _ c.field_at.ensures c.in-Whole.is
 
 pub returns-in-Faulty : goal.returns-in-Faulty
 returns-in-Faulty c =
-    text_on _ _ _ _ c.w.given.1 _ c.bit.ensures c.if-not-bit.false-raw _ _ c.field_at.ensures c.fault.given.1
+    text_on _ _ _ _ c.in-At.is _ c.bit.ensures c.if-not-bit.false-raw _ _ c.field_at.ensures c.in-Faulty.is
 
 pub returns-in-Stopped : goal.returns-in-Stopped
 returns-in-Stopped c = search text_after

@@ -10,15 +10,15 @@ pub returns-then-not-bit : goal.returns-then-not-bit
 returns-then-not-bit c = search list_off
 
 pub overflow_sub-result : goal.overflow_sub-result
-overflow_sub-result c = omega (arith, grows _ _ _ _ (sym c.entries_at.ensures ∙ c.count.given.1))
+overflow_sub-result c = omega (arith, grows _ _ _ _ (sym c.entries_at.ensures ∙ c.in-Run.is))
 
 pub returns-in-Run : goal.returns-in-Run
 returns-in-Run c =
-    list_on _ _ _ _ c.w.given.1 _ c.bit.ensures _ c.if-not-bit.false-raw _ _ _ c.most_of.ensures c.entries_at.ensures c.count.given.1
+    list_on _ _ _ _ c.in-At.is _ c.bit.ensures _ c.if-not-bit.false-raw _ _ _ c.most_of.ensures c.entries_at.ensures c.in-Run.is
 
 pub returns-in-Broken : goal.returns-in-Broken
 returns-in-Broken c =
-    list_on _ _ _ _ c.w.given.1 _ c.bit.ensures _ c.if-not-bit.false-raw _ _ _ c.most_of.ensures c.entries_at.ensures c.fault.given.1
+    list_on _ _ _ _ c.in-At.is _ c.bit.ensures _ c.if-not-bit.false-raw _ _ _ c.most_of.ensures c.entries_at.ensures c.in-Broken.is
 
 pub returns-in-Stopped : goal.returns-in-Stopped
 returns-in-Stopped c = search list_after

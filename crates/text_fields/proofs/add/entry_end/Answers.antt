@@ -6,13 +6,13 @@ use borrow.Author.Rules.{rules}
 use Rattle.text_fields.proofs.add.entry_end.Goals as goal
 
 pub overflow_add-result : goal.overflow_add-result
-overflow_add-result c = omega (arith, whole_end _ _ c.field_at.ensures c.place.given.1)
+overflow_add-result c = omega (arith, whole_end _ _ c.field_at.ensures c.in-Whole.is)
 
 pub returns-in-Absent : goal.returns-in-Absent
-returns-in-Absent c = entry_is _ _ _ _ c.field_at.ensures c.enum_told.given.1
+returns-in-Absent c = entry_is _ _ _ _ c.field_at.ensures c.in-Absent.is
 
 pub returns-in-Whole : goal.returns-in-Whole
-returns-in-Whole c = entry_is _ _ _ _ c.field_at.ensures c.place.given.1
+returns-in-Whole c = entry_is _ _ _ _ c.field_at.ensures c.in-Whole.is
 
 pub returns-in-Faulty : goal.returns-in-Faulty
-returns-in-Faulty c = entry_is _ _ _ _ c.field_at.ensures c.enum_told-in-Faulty-1.given.1
+returns-in-Faulty c = entry_is _ _ _ _ c.field_at.ensures c.in-Faulty.is

@@ -13,22 +13,22 @@ loop-count-init c = (search rules, ap (λ (n : ℕ). entries n c.args.s.now c.ar
 pub returns-in-Absent : goal.returns-in-Absent
 returns-in-Absent c =
     let l = c.loop-count in
-    stop _ _ _ _ c.loop-count-test.true l.invariant.1 c.field_at.ensures c.enum_told.given.1
+    stop _ _ _ _ c.loop-count-test.true l.invariant.1 c.field_at.ensures c.in-Absent.is
 
 pub overflow_add-next : goal.overflow_add-next
-overflow_add-next c = omega (arith, whole_end _ _ c.field_at.ensures c.place.given.1)
+overflow_add-next c = omega (arith, whole_end _ _ c.field_at.ensures c.in-Whole.is)
 
 pub loop-count-preserved : goal.loop-count-preserved
 loop-count-preserved c =
     let l = c.loop-count in (
       omega arith,
-      go_on _ _ _ _ c.loop-count-test.true l.invariant.1 c.field_at.ensures c.place.given.1,
+      go_on _ _ _ _ c.loop-count-test.true l.invariant.1 c.field_at.ensures c.in-Whole.is,
     )
 
 pub returns-in-Faulty : goal.returns-in-Faulty
 returns-in-Faulty c =
     let l = c.loop-count in
-    fail _ _ _ _ c.loop-count-test.true l.invariant.1 c.field_at.ensures c.fault.given.1
+    fail _ _ _ _ c.loop-count-test.true l.invariant.1 c.field_at.ensures c.in-Faulty.is
 
 pub returns : goal.returns
 returns c = full _ _ _ _ c.loop-count-test.false c.loop-count.invariant.1

@@ -16,19 +16,19 @@ loop-k-init c = let a = c.args in (search rules, ap (λ (n : ℕ). entries n a.t
 pub returns-in-Absent : goal.returns-in-Absent
 returns-in-Absent c =
     list_short _ _ _ c.is_empty.ensures c.if-is_empty.false _ _ c.loop-k-test.true
-    (stop _ _ _ _ c.loop-k-test.true c.loop-k.invariant.1 c.field_at.ensures c.enum_told.given.1)
+    (stop _ _ _ _ c.loop-k-test.true c.loop-k.invariant.1 c.field_at.ensures c.in-Absent.is)
 
 pub overflow_add-next : goal.overflow_add-next
-overflow_add-next c = omega (arith, whole_end _ _ c.field_at.ensures c.at.given.1)
+overflow_add-next c = omega (arith, whole_end _ _ c.field_at.ensures c.in-Whole.is)
 
 pub loop-k-preserved : goal.loop-k-preserved
 loop-k-preserved c =
-    (omega arith, go_on _ _ _ _ c.loop-k-test.true c.loop-k.invariant.1 c.field_at.ensures c.at.given.1)
+    (omega arith, go_on _ _ _ _ c.loop-k-test.true c.loop-k.invariant.1 c.field_at.ensures c.in-Whole.is)
 
 pub returns-in-Faulty : goal.returns-in-Faulty
 returns-in-Faulty c =
     list_broken _ _ _ c.is_empty.ensures c.if-is_empty.false _
-    (fail _ _ _ _ c.loop-k-test.true c.loop-k.invariant.1 c.field_at.ensures c.enum_told-in-Faulty-1.given.1)
+    (fail _ _ _ _ c.loop-k-test.true c.loop-k.invariant.1 c.field_at.ensures c.in-Faulty.is)
 
 pub overflow_sub-result : goal.overflow_sub-result
 overflow_sub-result c = omega (arith, grows _ _ _ _ (sym (full _ _ _ _ c.loop-k-test.false c.loop-k.invariant.1)))
