@@ -14,7 +14,7 @@ use Rattle.text_fields.specs.Fields.{bad, is_maybe, is_list}
 use Rattle.text_fields.specs.Steps.{first_bad, text_bytes, run_bytes}
 use Rattle.pfd_contents.specs.PfdContents.{tested}
 use Rattle.pfd_contents.specs.Steps.{as_refusal, wire_by_runs}
-use Rattle.text_fields.proofs.Stores.{no_text, some_text, field_length, Stored, more, begun}
+use Rattle.text_fields.proofs.Stores.{no_text_law, some_text, field_length, Stored, more, begun}
 use Rattle.text_fields.specs.declared.MaybeText.{MaybeText}
 use Rattle.text_fields.specs.declared.TextList.{TextList}
 use Rattle.pfd_contents.specs.declared.PfdContents.{PfdContents}
@@ -62,7 +62,7 @@ all_tested t r {b₁} {b₂} {b₃} {b₄} {b₅} {b₆} {b₇} {b₈} e₁ e₂
 
 module _ (t : List ℕ) (x : MaybeText) where
   pub none_width : not x.given ≡ true → 0 ≡ length (text_bytes t x)
-  none_width h = rw (no_text t x h)
+  none_width h = rw (no_text_law t x h)
 
   module _ (p : List ℕ) (h : not x.given ≡ false) (e : p ≡ take x.len (drop x.place t)) where
     pub text_width : length p + 2 ≡ length (text_bytes t x)

@@ -1,0 +1,8 @@
+-- `pfd_contents::PfdContentsBuilder::add_additional_flow_description` meets its contract: its list, with-entry.
+use Rattle.pfd_contents.specs.Builder.{with_flows}
+use Rattle.pfd_contents.proofs.Building.{add_to}
+use borrow.Author.Rules.{rules}
+use Rattle.pfd_contents.proofs.build.PfdContentsBuilder.add_additional_flow_description.Goals as goal
+
+pub returns : goal.returns
+returns c = add_to (with_flows c.args.self) _ _ _ c.with_entry-step.ensures c.additional_flow_descriptions-builder.ensures
