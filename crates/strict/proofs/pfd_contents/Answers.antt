@@ -1,0 +1,9 @@
+-- `strict::pfd_contents` meets its contract: what was read is what the definition reads.
+use borrow.Author.Rules.{rules}
+use Rattle.strict.specs.Strict.{verdict}
+use Rattle.strict.proofs.pfd_contents.Goals as goal
+
+pub returns : goal.returns
+unfolding verdict
+returns c =
+    rw (c.accepted_and.ensures, c.complete.ensures c.args.payload.now, c.unmarshal-read.ensures)
