@@ -5,7 +5,7 @@ ghost use Rattle.std.specs.Prelude.{◌≡◌, ◌+◌, ◌≤◌, length};
 ghost use Rattle.octets.specs.Octets.{put};
 ghost use Rattle.case_line.specs.Line.{printed};
 
-use libc::{STDIN_FILENO, STDOUT_FILENO};
+use std::io::Read;
 
 // A letter, a space and 4,096 digit pairs, and a byte more: a line that goes on past these is another line, whatever follows.
 const LONGEST: usize = 8195;
@@ -21,12 +21,12 @@ struct Room {
 }
 
 // Makes room for a row: writes the output where the longest one doesn't fit behind what is ready.
-fn make_room(output: &[u8], ready: usize) -> Room
+fn make_room<R: Print>(rt: &R, output: &[u8], ready: usize) -> Room
     requires { (ready ≤ length output.now) × (8218 ≤ length output.now) }
     ensures { result.ready + 8218 ≤ length output.now }
 {
     if output.len() - ready < ROW {
-        let ok = io::write_all(STDOUT_FILENO, &output[..ready]);
+        let ok = Print::write_all(rt, &output[..ready]).is_ok();
         return Room { ready: 0, ok };
     }
     Room { ready, ok: true }
@@ -50,7 +50,7 @@ struct Lines {
 }
 
 // Answers the lines of the input that have an end. The first `searched` bytes have none.
-fn answer_lines(input: &[u8], searched: usize, output: &mut [u8]) -> Lines
+fn answer_lines<R: Print>(rt: &R, input: &[u8], searched: usize, output: &mut [u8]) -> Lines
     requires { (searched ≤ length input.now) × (8218 ≤ length output.old) }
     ensures { result.start ≤ length input.now }
 {
@@ -59,7 +59,7 @@ fn answer_lines(input: &[u8], searched: usize, output: &mut [u8]) -> Lines
     let mut ready = 0;
     let mut at = slices::find(input, searched, n, b'\n');
     while at < n {
-        let room = make_room(output, ready);
+        let room = make_room(rt, output, ready);
         if !room.ok {
             return Lines { start, ok: false };
         }
@@ -67,7 +67,7 @@ fn answer_lines(input: &[u8], searched: usize, output: &mut [u8]) -> Lines
         start = at + 1;
         at = slices::find(input, start, n, b'\n');
     }
-    let ok = io::write_all(STDOUT_FILENO, &output[..ready]);
+    let ok = Print::write_all(rt, &output[..ready]).is_ok();
     Lines { start, ok }
 }
 
@@ -93,15 +93,19 @@ struct Got {
 }
 
 // Reads once behind the bytes of an unfinished line.
-fn read_behind(input: &mut [u8], pending: usize) -> Got
+fn read_behind<R: Input>(rt: &R, input: &mut [u8], pending: usize) -> Got
     requires { pending ≤ length input.old }
     ensures { (pending ≤ result.end) × (result.end ≤ length input.old) }
 {
-    let got = libc::read(STDIN_FILENO, &mut input[pending..]);
-    let n = io::count(got, &input[pending..]);
-    Got {
-        end: pending + n,
-        failed: got < 0,
+    match rt.reader().read(&mut input[pending..]) {
+        Ok(n) => Got {
+            end: pending + n,
+            failed: false,
+        },
+        Err(_) => Got {
+            end: pending,
+            failed: true,
+        },
     }
 }
 
@@ -113,11 +117,11 @@ struct Rest {
 }
 
 // Reads once, and answers the lines that have an end. Where the read fails, or the answers can't be written, nothing is pending.
-fn take_turn(input: &mut [u8], pending: usize, output: &mut [u8]) -> Rest
+fn take_turn<R: Input + Print>(rt: &R, input: &mut [u8], pending: usize, output: &mut [u8]) -> Rest
     requires { (pending ≤ 8195) × (length input.old ≡ 65536) × (length output.old ≡ 65536) }
     ensures { result.pending ≤ 8195 }
 {
-    let got = read_behind(input, pending);
+    let got = read_behind(rt, input, pending);
     if got.failed {
         return Rest {
             pending: 0,
@@ -131,7 +135,7 @@ fn take_turn(input: &mut [u8], pending: usize, output: &mut [u8]) -> Rest
             more: false,
         };
     }
-    let lines = answer_lines(&input[..end], pending, output);
+    let lines = answer_lines(rt, &input[..end], pending, output);
     if !lines.ok {
         return Rest {
             pending: 0,
@@ -146,7 +150,7 @@ fn take_turn(input: &mut [u8], pending: usize, output: &mut [u8]) -> Rest
 
 // Answers the lines of the input, and returns how many bytes of an unfinished last one stand at the front. A proved loop has to
 // end, and nothing says that an input does, so the turns are counted down from a number that no run uses up.
-fn answer_input(input: &mut [u8], output: &mut [u8]) -> usize
+fn answer_input<R: Input + Print>(rt: &R, input: &mut [u8], output: &mut [u8]) -> usize
     requires { (length input.old ≡ 65536) × (length output.old ≡ 65536) }
     ensures { result ≤ 8195 }
 {
@@ -154,7 +158,7 @@ fn answer_input(input: &mut [u8], output: &mut [u8]) -> usize
     let mut turns = u64::MAX;
     while turns > 0 {
         turns -= 1;
-        let rest = take_turn(input, pending, output);
+        let rest = take_turn(rt, input, pending, output);
         pending = rest.pending;
         if !rest.more {
             return pending;
@@ -163,13 +167,13 @@ fn answer_input(input: &mut [u8], output: &mut [u8]) -> usize
     pending
 }
 
-fn main() {
+fn main(rt: HostRuntime) {
     let mut input = [0u8; 65536];
     let mut output = [0u8; 65536];
-    let pending = answer_input(&mut input, &mut output);
+    let pending = answer_input(&rt, &mut input, &mut output);
     if pending == 0 {
         return;
     }
     let n = answer(&input[..pending], &mut output, 0);
-    io::write_all(STDOUT_FILENO, &output[..n]);
+    let _ = Print::write_all(&rt, &output[..n]);
 }

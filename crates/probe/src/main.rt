@@ -12,12 +12,12 @@ const ROW: usize = 300000;
 
 // Answers all lines. A proved loop has to end, and nothing says that an input does, so the turns are counted down from a number
 // that no run uses up.
-fn answer_all(input: &mut [u8], payload: &mut [u8], output: &mut [u8]) {
+fn answer_all<R: Input + Print>(rt: &R, input: &mut [u8], payload: &mut [u8], output: &mut [u8]) {
     let mut stream = Stream::START;
     let mut turns = u64::MAX;
     while 0 < turns {
         turns -= 1;
-        stream = stream.next(input, output, line::LONGEST + 1, ROW);
+        stream = stream.next(rt, input, output, line::LONGEST + 1, ROW);
         if !stream.is_open {
             return;
         }
@@ -28,9 +28,9 @@ fn answer_all(input: &mut [u8], payload: &mut [u8], output: &mut [u8]) {
     }
 }
 
-fn main() {
+fn main(rt: HostRuntime) {
     let mut input = stream::buffer();
     let mut payload = [0u8; 131072];
     let mut output = stream::buffer();
-    answer_all(&mut input, &mut payload, &mut output);
+    answer_all(&rt, &mut input, &mut payload, &mut output);
 }

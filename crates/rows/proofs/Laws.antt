@@ -19,10 +19,10 @@ use Rattle.rows.specs.Row.{quoted, length_of, listed, bracketed, shown_as, shown
 -- ---- pieces, put one behind the other
 -- what a call that puts a piece, or some, promises of its answer and its output
 abbrev pub One : List ℕ → List ℕ → ℕ → List ℕ → ℕ → Type 0
-One p d at d' e = (e ≡ past at p) × (d' ≡ put d at p)
+One p d at d' e = record { value : e ≡ past at p; out_after : d' ≡ put d at p }
 
 abbrev pub Some : List (List ℕ) → List ℕ → ℕ → List ℕ → ℕ → Type 0
-Some ps d at d' e = (e ≡ ends at ps) × (d' ≡ puts d at ps)
+Some ps d at d' e = record { value : e ≡ ends at ps; out_after : d' ≡ puts d at ps }
 
 pub ends_append : (ps qs : List (List ℕ)) (at : ℕ) → ends at (ps ++ qs) ≡ ends (ends at ps) qs
 unfolding ends
@@ -56,11 +56,12 @@ puts_room (p ∷ ps) d at h m =
 
 pub some_one : (p d d' : List ℕ) (at e : ℕ) → One p d at d' e → Some (p ∷ []) d at d' e
 unfolding ends puts
-some_one p d d' at e h = h
+some_one p d d' at e h = record { value = h.value; out_after = h.out_after }
 
 pub some_more : (p : List ℕ) (ps : List (List ℕ)) (d d1 d2 : List ℕ) (at m e : ℕ) → One p d at d1 m → Some ps d1 m d2 e → Some (p ∷ ps) d at d2 e
 unfolding ends puts
-some_more p ps d d1 d2 at m e h g = (rw (← h.0) g.0, rw (← h.0, ← h.1) g.1)
+some_more p ps d d1 d2 at m e h g =
+    record { value = rw (← h.value) g.value; out_after = rw (← h.value, ← h.out_after) g.out_after }
 
 -- what is left, put now, gives the same as all of it, put at first
 abbrev pub Left : List (List ℕ) → List ℕ → ℕ → List (List ℕ) → List ℕ → ℕ → Type 0
@@ -68,15 +69,16 @@ Left ps d e qs d₀ at = (ends e ps ≡ ends at qs) × (puts d e ps ≡ puts d�
 
 left_one : (p : List ℕ) (ps qs : List (List ℕ)) (d d1 d₀ : List ℕ) (e e1 at : ℕ) → One p d e d1 e1 → Left (p ∷ ps) d e qs d₀ at → Left ps d1 e1 qs d₀ at
 unfolding ends puts
-left_one p ps qs d d1 d₀ e e1 at h l = (rw h.0 l.0, rw (h.0, h.1) l.1)
+left_one p ps qs d d1 d₀ e e1 at h l = (rw h.value l.0, rw (h.value, h.out_after) l.1)
 
 left_some : (xs ps qs : List (List ℕ)) (d d1 d₀ : List ℕ) (e e1 at : ℕ) → Some xs d e d1 e1 → Left (xs ++ ps) d e qs d₀ at → Left ps d1 e1 qs d₀ at
 left_some xs ps qs d d1 d₀ e e1 at h l =
-    (rw h.0 (sym (ends_append xs ps e) ∙ l.0), rw (h.0, h.1) (sym (puts_append xs ps d e) ∙ l.1))
+    (rw h.value (sym (ends_append xs ps e) ∙ l.0), rw (h.value, h.out_after) (sym (puts_append xs ps d e) ∙ l.1))
 
 pub left_last : (p : List ℕ) (qs : List (List ℕ)) (d d1 d₀ : List ℕ) (e e1 at : ℕ) → One p d e d1 e1 → Left (p ∷ []) d e qs d₀ at → Some qs d₀ at d1 e1
 unfolding ends puts
-left_last p qs d d1 d₀ e e1 at h l = left_one p [] qs d d1 d₀ e e1 at h l
+left_last p qs d d1 d₀ e e1 at h l =
+    let k : Left [] d1 e1 qs d₀ at = left_one p [] qs d d1 d₀ e e1 at h l in record { value = k.0; out_after = k.1 }
 
 -- ---- places past the end
 drop_most : (k m : ℕ) (s : List ℕ) → length s ≤ m → drop (min k m) s ≡ drop k s

@@ -1,8 +1,8 @@
 // Lines of the standard input, of any length in constant memory, and the rows that answer them on the standard output.
 ghost use Rattle.std.specs.Prelude.{◌≡◌, length, replicate};
 
-use libc::{STDIN_FILENO, STDOUT_FILENO};
 use lines::{after, least, left};
+use std::io::Read;
 
 // Where a program stands in its input and its output.
 #[derive(Clone, Copy)]
@@ -28,8 +28,8 @@ pub fn buffer() -> [u8; 400000]
     [0; 400000]
 }
 
-fn write(output: &[u8], ready: usize) -> bool {
-    io::write_all(STDOUT_FILENO, texts::part(output, 0, ready))
+fn write<R: Print>(rt: &R, output: &[u8], ready: usize) -> bool {
+    Print::write_all(rt, texts::part(output, 0, ready)).is_ok()
 }
 
 // Where the input ends after a read, and whether that failed.
@@ -40,18 +40,22 @@ struct Got {
 }
 
 // Reads once behind the bytes of an unfinished line.
-fn read_behind(input: &mut [u8], pending: usize) -> Got {
+fn read_behind<R: Input>(rt: &R, input: &mut [u8], pending: usize) -> Got {
     if input.len() < pending {
         return Got {
             end: pending,
             failed: true,
         };
     }
-    let got = libc::read(STDIN_FILENO, &mut input[pending..]);
-    let n = io::count(got, &input[pending..]);
-    Got {
-        end: after(pending, n),
-        failed: got < 0,
+    match rt.reader().read(&mut input[pending..]) {
+        Ok(n) => Got {
+            end: after(pending, n),
+            failed: false,
+        },
+        Err(_) => Got {
+            end: pending,
+            failed: true,
+        },
     }
 }
 
@@ -78,22 +82,29 @@ impl Stream {
 
     // Passes over the line that it has, and finds the next one, and room for a row. Where no whole line is loaded, writes what is
     // ready and reads on; of an unfinished line no more than `longest` bytes count.
-    pub fn next(self, input: &mut [u8], output: &[u8], longest: usize, row: usize) -> Stream
+    pub fn next<R: Input + Print>(
+        self,
+        rt: &R,
+        input: &mut [u8],
+        output: &[u8],
+        longest: usize,
+        row: usize,
+    ) -> Stream
         ensures { length input.new ≡ length input.old }
     {
         let stream = self.behind_line();
         let loaded = least(stream.loaded, input.len());
         let to = slices::find(input, least(stream.to, loaded), loaded, b'\n');
         if to < loaded {
-            return stream.with_line(to, output, row);
+            return stream.with_line(rt, to, output, row);
         }
-        if !write(output, stream.ready) {
+        if !write(rt, output, stream.ready) {
             return Stream::END;
         }
         if !stream.more {
             return Stream::END;
         }
-        stream.read(input, longest)
+        stream.read(rt, input, longest)
     }
 
     fn behind_line(mut self) -> Stream {
@@ -106,13 +117,13 @@ impl Stream {
         self
     }
 
-    fn with_line(mut self, to: usize, output: &[u8], row: usize) -> Stream {
+    fn with_line<R: Print>(mut self, rt: &R, to: usize, output: &[u8], row: usize) -> Stream {
         self.has_line = true;
         self.to = to;
         if row <= left(output.len(), self.ready) {
             return self;
         }
-        if !write(output, self.ready) {
+        if !write(rt, output, self.ready) {
             return Stream::END;
         }
         self.ready = 0;
@@ -120,13 +131,13 @@ impl Stream {
     }
 
     // Reads once behind what is pending of a line. The end of the input ends a last line.
-    fn read(mut self, input: &mut [u8], longest: usize) -> Stream {
+    fn read<R: Input>(mut self, rt: &R, input: &mut [u8], longest: usize) -> Stream {
         let pending = lines::to_front(
             input,
             self.from,
             least(left(self.loaded, self.from), longest),
         );
-        let got = read_behind(input, pending);
+        let got = read_behind(rt, input, pending);
         if got.failed {
             return Stream::END;
         }

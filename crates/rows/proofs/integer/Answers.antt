@@ -1,20 +1,17 @@
 -- `rows::integer` meets its contract: a number below 0 is -1 - n, and n is what is left of -1 without it.
-use Prim.Native.Nat.{ℕ, suc, ◌+◌, ◌-◌, ◌^◌, ◌<◌}
+use Prim.Native.Nat.{ℕ, suc, ◌+◌, ◌-◌, ◌<◌}
 use native.Mathlib.Omega.{arith}
 use native.Mathlib.Nat.{not-suc-le-zero}
-use mathlib.Core.Path.{◌≡◌, refl, sym, ap, ◌∙◌, subst}
+use mathlib.Core.Path.{◌≡◌, refl, sym, ap, ◌∙◌}
 use mathlib.Core.Bool.{true, false, false≢true}
-use mathlib.Core.List.{List, [], ◌∷◌}
-use lib.IntN.{ℤ, pos, negsuc, nat_abs, ◌-ℤ◌}
+use lib.IntN.{ℤ, pos, negsuc, ◌-ℤ◌}
 use lib.Signed.{lt_z}
-use mir.Syntax.{w32, w64}
-use mir.Val.{Fits, SFits, to_z, of_z}
+use mir.Syntax.{w32}
+use mir.Val.{SFits, to_z, of_z}
 use mir.ValLaws.{to_z-of_z}
-use borrow.Author.Rules.{rules}
 use borrow.Author.Tests.{le-ltb, ltb-true}
 use Rattle.rows.specs.Values.{integer_value}
-use Rattle.rows.proofs.integer.Statement.{statement}
-use Rattle.rows.proofs.integer.Tie as tie
+use Rattle.rows.proofs.integer.Goals as goal
 
 -- what is below 0 from -1 down
 from_one : (n : ℕ) → negsuc 0 -ℤ negsuc n ≡ pos n
@@ -62,40 +59,37 @@ module _ (z : ℤ) (f : SFits w32 z) where
     same : to_z w32 (of_z w32 z) ≡ pos a.n
     same = to_z-of_z w32 z f ∙ a.is
 
-sub-t4 : tie.Need-overflow-sub-t4
-sub-t4 c = left-fits c.before.args.x c.before.ranges.x c.if1.true
+pub overflow_sub-result : goal.overflow_sub-result
+overflow_sub-result c = left-fits c.args.x c.ranges.x c.if-x-lt0.true
 
-cast-t5 : tie.Need-overflow-cast-t5
-cast-t5 c =
-    let x = c.before.args.x in
-    let f = c.before.ranges.x in
-    rw (read_back x f c.if1.true) (tt, record { fits = omega (arith, (b x f c.if1.true).small) })
+pub overflow_cast-result-then-x-lt0 : goal.overflow_cast-result-then-x-lt0
+overflow_cast-result-then-x-lt0 c =
+    let x = c.args.x in
+    let f = c.ranges.x in
+    rw (read_back x f c.if-x-lt0.true) (tt, record { fits = omega (arith, (b x f c.if-x-lt0.true).small) })
 
-add-t6 : tie.Need-overflow-add-t6
-add-t6 c =
-    let x = c.before.args.x in
-    let f = c.before.ranges.x in
-    rw (read_back x f c.if1.true) (record { fits = omega (arith, (b x f c.if1.true).small) })
+pub overflow_add-result : goal.overflow_add-result
+overflow_add-result c =
+    let x = c.args.x in
+    let f = c.ranges.x in
+    rw (read_back x f c.if-x-lt0.true) (record { fits = omega (arith, (b x f c.if-x-lt0.true).small) })
 
-returns : tie.Need-returns
-returns c =
-    let x = c.before.args.x in
-    let f = c.before.ranges.x in
-    let n = (b x f c.if1.true).n in
+pub returns-then-x-lt0 : goal.returns-then-x-lt0
+returns-then-x-lt0 c =
+    let x = c.args.x in
+    let f = c.ranges.x in
+    let n = (b x f c.if-x-lt0.true).n in
     let e : n + 1 ≡ suc n = omega arith in
-    rw (read_back x f c.if1.true, e) (sym (ap integer_value (b x f c.if1.true).is))
+    rw (read_back x f c.if-x-lt0.true, e) (sym (ap integer_value (b x f c.if-x-lt0.true).is))
 
-cast-t7 : tie.Need-overflow-cast-t7
-cast-t7 c =
-    let x = c.before.args.x in
-    let f = c.before.ranges.x in
-    rw (same x f c.if1.false) (tt, record { fits = omega (arith, (a x f c.if1.false).small) })
+pub overflow_cast-result-2 : goal.overflow_cast-result-2
+overflow_cast-result-2 c =
+    let x = c.args.x in
+    let f = c.ranges.x in
+    rw (same x f c.if-x-lt0.false) (tt, record { fits = omega (arith, (a x f c.if-x-lt0.false).small) })
 
-returns-2 : tie.Need-returns-2
-returns-2 c =
-    let x = c.before.args.x in
-    let f = c.before.ranges.x in
-    rw (same x f c.if1.false) (sym (ap integer_value (a x f c.if1.false).is))
-
-pub integer-spec : {M : Type 1} → statement M
-integer-spec = tie.close (tie.spec (λ c. search rules) sub-t4 cast-t5 add-t6 returns cast-t7 returns-2)
+pub returns : goal.returns
+returns c =
+    let x = c.args.x in
+    let f = c.ranges.x in
+    rw (same x f c.if-x-lt0.false) (sym (ap integer_value (a x f c.if-x-lt0.false).is))
