@@ -101,13 +101,26 @@ count_runs() { # RUNS PROGRAM
     done
 }
 
+# ---- the toolchain, and archives that it writes
+# where its compiler and its C library are
+toolchain() {
+    local rt
+    rt=$(command -v rt) || return 0
+    echo "$(dirname "$(dirname "$(readlink -f "$rt")")")/toolchain"
+}
+our_archive() {
+    (cd "$top/crates/yerondatt" && rt lib)
+}
+# The crates in another folder, where further ones are added for a measurement. What was proved here isn't copied: rt begins with
+# what it kept of the same crates.
+copy_crates() { # FOLDER
+    (cd "$top" && tar cf - --exclude=out crates.txt crates) | tar xf - -C "$1"
+}
+
 # ---- the lines above the tables
 # the version of the kit's compiler, where its folder is found
 kit_clang() {
-    local rt
-    rt=$(command -v rt) || return 0
-    rt=$(readlink -f "$rt")
-    "${RATTLE_HOME:-$(dirname "$(dirname "$rt")")}/on/$machine/toolchain/bin/clang" --version 2>/dev/null | sed -n 's/^.*clang version \([0-9.]*\).*/, clang \1/p'
+    "$(toolchain)/bin/clang" --version 2>/dev/null | sed -n 's/^.*clang version \([0-9.]*\).*/, clang \1/p'
 }
 machine_lines() { # ARCHIVE ..
     echo "machine: $machine, $(lscpu | sed -n 's/^Model name: *//p' | head -n 1)"

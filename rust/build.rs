@@ -20,8 +20,7 @@ fn main() {
     println!("cargo:rerun-if-changed={}", archive.display());
     if !archive.is_file() {
         stop(&format!(
-            "{} is missing. `rt staticlib yerondatt`, run at the repository's top, makes it in target/staticlib; \
-             where it stands elsewhere, name its folder in {FOLDER}",
+            "{} is missing. `rt lib`, run in crates/yerondatt, makes it; where it stands elsewhere, name its folder in {FOLDER}",
             archive.display()
         ));
     }
@@ -35,7 +34,7 @@ fn folder() -> PathBuf {
         Some(folder) => PathBuf::from(folder),
         None => {
             let here = PathBuf::from(variable("CARGO_MANIFEST_DIR"));
-            here.parent().unwrap_or(&here).join("target/staticlib")
+            here.parent().unwrap_or(&here).join("crates/yerondatt/out")
         }
     }
 }

@@ -1,5 +1,6 @@
-/* An F-SEID with a spare bit set and bytes behind it. From the repository's top, once `rt staticlib yerondatt` has run:
- *     cc -Iinclude examples/c/spare_bit.c target/staticlib/libyerondatt.a -o target/spare_bit && target/spare_bit */
+/* An F-SEID with a spare bit set and bytes behind it. From the repository's top, once `rt lib` has run in crates/yerondatt:
+ *     cc -Iinclude examples/c/spare_bit.c crates/yerondatt/out/libyerondatt.a -o crates/yerondatt/out/spare_bit
+ *     crates/yerondatt/out/spare_bit */
 #include "yerondatt.h"
 #include <stdio.h>
 
