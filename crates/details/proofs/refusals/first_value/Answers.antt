@@ -8,8 +8,7 @@ use Rattle.octets.specs.Octets.{pick}
 use Rattle.rows.specs.Values.{count_value, hex_value}
 use Rattle.details.specs.Refusals.{first_value}
 use borrow.Author.Rules.{rules}
-use Rattle.details.proofs.refusals.first_value.Statement.{statement}
-use Rattle.details.proofs.refusals.first_value.Tie as tie
+use Rattle.details.proofs.refusals.first_value.Goals as goal
 
 first : (number x : ℕ) (v : List ℕ) (e : Bool) → e ≡ (eqb number 2 || eqb number 3) → e ≡ true → v ≡ hex_value 1 0 (x % 256) → v ≡ first_value number x
 first number x v e h t q = q ∙ ap (λ (b : Bool). pick b (hex_value 1 0 (x % 256)) (count_value x)) (sym t ∙ h)
@@ -17,14 +16,8 @@ first number x v e h t q = q ∙ ap (λ (b : Bool). pick b (hex_value 1 0 (x % 2
 others : (number x : ℕ) (v : List ℕ) (e : Bool) → e ≡ (eqb number 2 || eqb number 3) → e ≡ false → v ≡ count_value x → v ≡ first_value number x
 others number x v e h t q = q ∙ ap (λ (b : Bool). pick b (hex_value 1 0 (x % 256)) (count_value x)) (sym t ∙ h)
 
-returns : tie.Need-returns
-returns c = search first
+pub returns-then-either : goal.returns-then-either
+returns-then-either c = search first
 
-returns-2 : tie.Need-returns-2
-returns-2 c = search others
-
-pub first-value-spec : {M : Type 1} → statement M
-first-value-spec =
-    tie.close
-    (tie.spec
-    (λ c κs. search rules) (λ c. search rules) (λ c κs. search rules) returns (λ c κs. search rules) returns-2)
+pub returns : goal.returns
+returns c = search others
