@@ -6,5 +6,4 @@ use Rattle.details.proofs.refusals.put_unmade.Goals as goal
 pub returns : goal.returns
 unfolding ascii
 returns c =
-    let both = unmade_put _ _ _ _ _ _ _ _ _ c.number.ensures c.values-values.ensures c.count.ensures c.count-2.ensures (c.put.ensures.value, c.put.ensures.out_after) in
-    record { value = both.0; out_after = both.1 }
+    unmade_put _ _ _ _ _ _ _ _ _ c.number.ensures c.values-values.ensures c.count.ensures c.count-2.ensures c.put.ensures

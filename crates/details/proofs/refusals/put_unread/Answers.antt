@@ -7,5 +7,4 @@ use Rattle.details.proofs.refusals.put_unread.Goals as goal
 pub returns : goal.returns
 unfolding unread_words ascii
 returns c =
-    let both = unread_put _ _ _ _ _ _ _ _ c.number.ensures c.row-row.ensures c.unread.ensures (c.put.ensures.value, c.put.ensures.out_after) in
-    record { value = both.0; out_after = both.1 }
+    unread_put _ _ _ _ _ _ _ _ c.number.ensures c.row-row.ensures c.unread.ensures c.put.ensures
