@@ -30,13 +30,15 @@ two_puts d d1 d2 at m xs ys p q e h = q ∙ put_behind d d1 at m xs ys p e h
 
 -- what a call that prints a row promises of its answer and its output
 abbrev pub Puts : Option Row → List ℕ → List ℕ → ℕ → Type 0
-Puts o d d' n = (n ≡ taken (length (shown o)) (length d)) × (d' ≡ put d 0 (shown o))
+Puts o d d' n = record { value : n ≡ taken (length (shown o)) (length d); out_after : d' ≡ put d 0 (shown o) }
 
 pub puts_none : (o : Option Row) (d : List ℕ) → length d < length (shown o) → Puts o d d 0
-puts_none o d h = (rw (lt-leb _ _ h), sym (put_not d 0 (shown o) (omega arith)))
+puts_none o d h =
+    record { value = rw (lt-leb (length (shown o)) (length d) h); out_after = sym (put_not d 0 (shown o) (omega arith)) }
 
 pub puts_all : (o : Option Row) (d d' : List ℕ) (n : ℕ) → n ≡ length (shown o) → n ≤ length d → d' ≡ put d 0 (shown o) → Puts o d d' n
-puts_all o d d' n e h q = (e ∙ rw (le-leb (length (shown o)) (length d) (omega arith)), q)
+puts_all o d d' n e h q =
+    record { value = e ∙ rw (le-leb (length (shown o)) (length d) (omega arith)); out_after = q }
 
 taken_fits : (n m : ℕ) → taken n m ≤ m
 taken_fits n m = go (leb n m) refl
@@ -47,9 +49,10 @@ taken_fits n m = go (leb n m) refl
 
 -- the same of a line that has that row, with the bounds that follow
 pub puts_line : (o : Option Row) (line d d' : List ℕ) (n : ℕ) → o ≡ line_row line → length (shown o) ≤ 8218 → Puts o d d' n
-    → (n ≡ taken (length (printed line)) (length d)) × ((d' ≡ put d 0 (printed line)) × ((n ≤ length d) × (length (printed line) ≤ 8218)))
+    → record { value : n ≡ taken (length (printed line)) (length d); out_after : d' ≡ put d 0 (printed line); upper_bound : n ≤ length d; line_len_bound : length (printed line) ≤ 8218 }
 unfolding printed
-puts_line o line d d' n e l h = rw (← e) (h.0, (h.1, (omega (arith, h.0, taken_fits (length (shown o)) (length d)), l)))
+puts_line o line d d' n e l h =
+    rw (← e) (record { value = h.value; out_after = h.out_after; upper_bound = omega (arith, h.value, taken_fits (length (shown o)) (length d)); line_len_bound = l })
 
 -- ---- a row as it is printed
 pub dash : (bs : List ℕ) → length bs ≡ 0 → hex_or_dash bs ≡ 0x2D ∷ []
@@ -114,12 +117,12 @@ module _ (k : Kind) (same : (s : List ℕ) → length (k.clear s) ≡ length s) 
       → w ≡ answered refused (k.wire v) (length d)
       → d' ≡ stored refused d (k.wire v)
       → r ≡ redone a used w.len
-      → (row_in r d' ≡ some (row_of k.reader k.wire s)) × (r.len ≤ length d)
+      → record { bytes_after : row_in r d' ≡ some (row_of k.reader k.wire s); len_in_bounds : r.len ≤ length d }
   unfolding row_in row_of if_set answered stored
-  redo s d d' a used v refused w r b h ea eu ev able ew ed er = (
-    rw (er, go (eqb (number_of a) 0) refl, ea, eu, ev),
-    omega (arith, ap (λ (r : LineRow). r.len) er, if_set_le_law (eqb (number_of a) 0) w.len, ap (λ (w : Written). w.len) ew, answered_fits refused (k.wire v) (length d)),
-  )
+  redo s d d' a used v refused w r b h ea eu ev able ew ed er = record {
+    bytes_after = rw (er, go (eqb (number_of a) 0) refl, ea, eu, ev);
+    len_in_bounds = omega (arith, ap (λ (r : LineRow). r.len) er, if_set_le_law (eqb (number_of a) 0) w.len, ap (λ (w : Written). w.len) ew, answered_fits refused (k.wire v) (length d));
+  }
     where
       go : (t : Bool) → eqb (number_of a) 0 ≡ t → take (if_set t w.len) d' ≡ pick t (k.wire v) []
       go false q = refl
@@ -140,7 +143,7 @@ module _ (k : Kind) (same : (s : List ℕ) → length (k.clear s) ≡ length s) 
       → w ≡ written (length (k.wire (value x))) (length d)
       → d' ≡ put d 0 (k.wire (value x))
       → r ≡ redone (answer x) (used x) w.len
-      → (row_in r d' ≡ some (row_of k.reader k.wire s)) × (r.len ≤ length d)
+      → record { bytes_after : row_in r d' ≡ some (row_of k.reader k.wire s); len_in_bounds : r.len ≤ length d }
   unfolding answered stored
   redo_fixed answer used value s d d' x y w r e ea eu ev b h ew ed er =
       redo s d d' (answer x) (used x) (value x) none w r b h (ap answer e ∙ ea) (ap used e ∙ eu) (ap value e ∙ ev) (λ reads. refl) ew ed er

@@ -1,0 +1,14 @@
+-- `case_line::row_of_fseid` meets its contract: what was read and written is the row of the kind.
+use mathlib.Core.Path.{refl}
+use Rattle.octets.proofs.Laws.{bytes_each}
+use Rattle.kind.proofs.Laws.{length_clear}
+use Rattle.fseid.specs.declared.FseidRead.{FseidRead}
+use Rattle.fseid.specs.Fseid.{meaning}
+use Rattle.fseid.proofs.OfKind.{kind}
+use Rattle.case_line.proofs.Laws.{redo_fixed}
+use Rattle.case_line.proofs.row_of_fseid.Goals as goal
+
+pub returns : goal.returns
+returns c =
+    let payload = c.args.payload.now in redo_fixed kind (length_clear _) (λ (x : FseidRead). x.answer) (λ (x : FseidRead). x.used) (λ (x : FseidRead). meaning x.«record») payload _ _ _ _ _ _ c.unmarshal-read.ensures refl refl refl
+    (bytes_each payload (λ i. (c.type_inv.payload i).fits)) c.requires c.marshal-written.ensures.value c.marshal-written.ensures.out_after c.row_of.ensures
