@@ -11,9 +11,7 @@ use borrow.Rule.Slice.PartMut.{mid_of, put_mid}
 use Rattle.octets.specs.Octets.{over, put}
 use Rattle.octets.proofs.Laws.{put_fits, copy_part}
 use Rattle.case_line.specs.Line.{taken}
-use borrow.Author.Rules.{rules}
-use Rattle.case.proofs.answer.Statement.{statement}
-use Rattle.case.proofs.answer.Tie as tie
+use Rattle.case.proofs.answer.Goals as goal
 
 all_put : (d bs last : List ℕ) (at n : ℕ) → at + 8218 ≤ length d → length bs ≤ 8218
     → n ≡ taken (length bs) (length (mid_of at (length d - at) d))
@@ -28,37 +26,8 @@ all_put d bs last at n h l e q =
     let start = q ∙ put_fits part 0 bs (omega arith) ∙ ap₂ (λ (u v : List ℕ). u ++ v) (sym (take-length bs)) (ap (λ (k : ℕ). drop k part) (zero-add (length bs))) in
     (ap (λ (k : ℕ). at + k) all, (copy_part d at bs last (omega arith) start, omega arith))
 
-sub-answer-line : tie.Need-overflow-sub-answer-line
-sub-answer-line c = search rules
-
-part-answer-line-start : tie.Need-slice-bounds-answer-line-start
-part-answer-line-start c = search rules
-
-part-answer-line-end : tie.Need-slice-bounds-answer-line-end
-part-answer-line-end c = search rules
-
-answer-line-requires : tie.Need-answer-line-requires
-answer-line-requires c κs = search rules
-
-add-result : tie.Need-overflow-add-result
-add-result c = search rules
-
-same_length : tie.Need-same-length
-same_length c = search rules
-
-returns : tie.Need-returns
+pub returns : goal.returns
 returns c =
-    let a = c.before.before in
-    all_put _ _ _ _ _ a.before.before.before.before.requires a.answer-line.ensures.1.1.1 a.answer-line.ensures.0 a.answer-line.ensures.1.0
-
-pub answer-spec : {M : Type 1} → statement M
-answer-spec =
-    tie.close
-    (tie.spec
-    sub-answer-line
-    part-answer-line-start
-    part-answer-line-end
-    answer-line-requires
-    add-result
-    same_length
-    returns)
+    let e = c.answer_line.ensures in
+    let all = all_put _ _ _ _ _ c.requires e.line_len_bound e.value e.out_after in
+    record { value = all.0; output_after = all.1.0; upper_bound = all.1.1 }
