@@ -8,9 +8,7 @@ use Rattle.octets.specs.declared.MaybeIpv4.{MaybeIpv4}
 use Rattle.octets.specs.declared.MaybeIpv6.{MaybeIpv6}
 use Rattle.octets.specs.Octets.{bit, if_set, field, ipv4_of, ipv6_of}
 use Rattle.ue_ip_address_image.specs.UeIpAddressImage.{flags_at, given_at, bits_at, prefix_at, ipv4_at, ipv6_at, record_at}
-use borrow.Author.Rules.{rules}
-use Rattle.ue_ip_address_image.proofs.record_at.Statement.{statement}
-use Rattle.ue_ip_address_image.proofs.record_at.Tie as tie
+use Rattle.ue_ip_address_image.proofs.record_at.Goals as goal
 
 found : (m : List ℕ) (f : ℕ) (g : ℕ) (b0 : Bool) (a4 : MaybeIpv4) (b1 : Bool) (a6 : MaybeIpv6) (b2 : Bool) (b3 : Bool) (b4 : Bool) (b5 : Bool) (b6 : Bool) (b7 : Bool) (b8 : Bool) (b9 : Bool) (x : ℕ) (b10 : Bool) (y : ℕ)
     → f ≡ get_or m flags_at 0
@@ -35,14 +33,5 @@ unfolding record_at
 found m f g b0 a4 b1 a6 b2 b3 b4 b5 b6 b7 b8 b9 x b10 y q0 q1 q2 q3 q4 q5 q6 q7 q8 q9 q10 q11 q12 q13 q14 q15 q16 =
     rw (q16, q15, q14, q13, q12, q11, q10, q9, q8, q7, q6, q5, q4, q3, q2, q1, q0)
 
-returns : tie.Need-returns
+pub returns : goal.returns
 returns c = search found
-
-pub record-at-spec : {M : Type 1} → statement M
-record-at-spec =
-    tie.close
-    (tie.spec
-    (λ c κs. search rules) (λ c κs. search rules) (λ c κs. search rules) (λ c κs. search rules) (λ c κs. search rules)
-    (λ c κs. search rules) (λ c κs. search rules) (λ c κs. search rules) (λ c κs. search rules) (λ c κs. search rules)
-    (λ c κs. search rules) (λ c κs. search rules) (λ c κs. search rules) (λ c κs. search rules) (λ c κs. search rules)
-    (λ c κs. search rules) (λ c κs. search rules) returns)
