@@ -13,8 +13,7 @@ use Rattle.image.specs.Steps.{ZerosIfAbsent4, ZerosIfAbsent6}
 use Rattle.image.proofs.Laws.{last_field, then_byte, then_field, then_head, then_number}
 use Rattle.fseid_image.specs.FseidImage.{flags_at, given_at, seid_at, ipv4_at, ipv6_at, size, record_image}
 use borrow.Author.Rules.{rules}
-use Rattle.fseid_image.proofs.put_image.Statement.{statement}
-use Rattle.fseid_image.proofs.put_image.Tie as tie
+use Rattle.fseid_image.proofs.put_image.Goals as goal
 
 stored : (d d1 d2 d3 d4 d5 d6 : List ℕ) (n : ℕ) (r : Fseid) (g f : ℕ) → size ≤ length d
     → ZerosIfAbsent4 r.ipv4_address
@@ -39,31 +38,11 @@ stored d d1 d2 d3 d4 d5 d6 n r g f room z4 z6 l4 l6 eg ef q1 q2 q3 q4 q5 q6 =
     let s5 = then_byte s4 flags_at f q5 refl in
     rw (eg, ef) at (then_head s5 Done n q6 refl)
 
--- the arrays are as long as their types say
-lengths : (c : tie.Start) → (length c.args.«record».ipv4_address.octets ≡ 4) × (length c.args.«record».ipv6_address.octets ≡ 16)
-lengths c = (search rules, search rules)
+pub returns-then-out-lt-SIZE : goal.returns-then-out-lt-SIZE
+returns-then-out-lt-SIZE c = absurd (omega arith)
 
-returns : tie.Need-returns
-returns c = absurd (omega arith)
-
-returns-2 : tie.Need-returns-2
-returns-2 c =
-    let h = c.before.before in
-    let p5 = h.before.before.before.before in
-    let p4 = p5.before.before.before.before in
-    let p3 = p4.before.before.before.before in
-    let p2 = p3.before.before.before.before in
-    let p1 = p2.before.before.before.before.before in
-    let f = p1.before.before.before in
-    let g = f.before in
-    let start = g.before.before.before.before.before.before.before in
-    let (l4, l6) = lengths start in
-    stored _ _ _ _ _ _ _ _ _ _ _ start.requires.0 start.requires.1.0 start.requires.1.1 l4 l6 g.flag-byte.ensures f.flag-byte2.ensures p1.put-bytes.ensures p2.put-bytes2.ensures p3.put-u64.ensures p4.put_byte.ensures p5.put-byte2.ensures h.put-head.ensures
-
-pub put-image-spec : {M : Type 1} → statement M
-put-image-spec =
-    tie.close
-    (tie.spec
-    returns (λ c κs. search rules) (λ c κs. search rules) (λ c. search rules) (λ c κs. search rules)
-    (λ c. search rules) (λ c κs. search rules) (λ c κs. search rules) (λ c κs. search rules) (λ c κs. search rules)
-    (λ c κs. search rules) (λ c. search rules) returns-2)
+pub returns : goal.returns
+returns c =
+    let l4 : length c.args.«record».ipv4_address.octets ≡ 4 = search rules in
+    let l6 : length c.args.«record».ipv6_address.octets ≡ 16 = search rules in
+    stored _ _ _ _ _ _ _ _ _ _ _ c.requires.size_in_bounds c.requires.zeros_if_absent4 c.requires.zeros_if_absent6 l4 l6 c.flag_byte-given.ensures c.flag_byte-flags.ensures c.put_bytes.ensures c.put_bytes-2.ensures c.put_u64.ensures c.put_byte.ensures c.put_byte-2.ensures c.put_head.ensures

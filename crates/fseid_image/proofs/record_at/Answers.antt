@@ -9,9 +9,7 @@ use Rattle.octets.specs.declared.MaybeIpv6.{MaybeIpv6}
 use Rattle.octets.specs.Octets.{bit, if_set, field, ipv4_of, ipv6_of}
 use Rattle.image.specs.Image.{number_at}
 use Rattle.fseid_image.specs.FseidImage.{flags_at, given_at, seid_at, ipv4_at, ipv6_at, record_at}
-use borrow.Author.Rules.{rules}
-use Rattle.fseid_image.proofs.record_at.Statement.{statement}
-use Rattle.fseid_image.proofs.record_at.Tie as tie
+use Rattle.fseid_image.proofs.record_at.Goals as goal
 
 found : (m : List ℕ) (f : ℕ) (g : ℕ) (x : ℕ) (b0 : Bool) (a4 : MaybeIpv4) (b1 : Bool) (a6 : MaybeIpv6) (b2 : Bool) (b3 : Bool)
     → f ≡ get_or m flags_at 0
@@ -28,12 +26,5 @@ unfolding record_at
 found m f g x b0 a4 b1 a6 b2 b3 q0 q1 q2 q3 q4 q5 q6 q7 q8 =
     rw (q8, q7, q6, q5, q4, q3, q2, q1, q0)
 
-returns : tie.Need-returns
+pub returns : goal.returns
 returns c = search found
-
-pub record-at-spec : {M : Type 1} → statement M
-record-at-spec =
-    tie.close
-    (tie.spec
-    (λ c κs. search rules) (λ c κs. search rules) (λ c κs. search rules) (λ c κs. search rules) (λ c κs. search rules)
-    (λ c κs. search rules) (λ c κs. search rules) (λ c κs. search rules) (λ c κs. search rules) returns)
