@@ -10,9 +10,7 @@ use Rattle.octets.specs.Octets.{if_set, field, ipv4_of, ipv6_of}
 use Rattle.node_id.specs.declared.NodeIdType.{NodeIdType}
 use Rattle.image.specs.Image.{number_at}
 use Rattle.node_id_image.specs.NodeIdImage.{type_at, place_at, len_at, ipv4_at, ipv6_at, type_of, record_at}
-use borrow.Author.Rules.{rules}
-use Rattle.node_id_image.proofs.record_at.Statement.{statement}
-use Rattle.node_id_image.proofs.record_at.Tie as tie
+use Rattle.node_id_image.proofs.record_at.Goals as goal
 
 found : (m : List ℕ) (b : ℕ) (k : NodeIdType) (p : ℕ) (n : ℕ) (a4 : MaybeIpv4) (a6 : MaybeIpv6)
     → b ≡ get_or m type_at 0
@@ -26,12 +24,5 @@ unfolding record_at if_set
 found m b k p n a4 a6 q0 q1 q2 q3 q4 q5 =
     rw (q5, q4, q3, q2, q1, q0)
 
-returns : tie.Need-returns
+pub returns : goal.returns
 returns c = search found
-
-pub record-at-spec : {M : Type 1} → statement M
-record-at-spec =
-    tie.close
-    (tie.spec
-    (λ c κs. search rules) (λ c κs. search rules) (λ c κs. search rules) (λ c κs. search rules) (λ c κs. search rules)
-    (λ c κs. search rules) returns)

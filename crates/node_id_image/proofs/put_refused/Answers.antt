@@ -9,9 +9,7 @@ use Rattle.image.specs.Image.{little_endian_bytes, head}
 use Rattle.image.proofs.Laws.{last_part, then_number, then_head}
 use Rattle.node_id.specs.NodeId.{refused}
 use Rattle.node_id_image.specs.NodeIdImage.{type_at, size, record_image, image_of}
-use borrow.Author.Rules.{rules}
-use Rattle.node_id_image.proofs.put_refused.Statement.{statement}
-use Rattle.node_id_image.proofs.put_refused.Tie as tie
+use Rattle.node_id_image.proofs.put_refused.Goals as goal
 
 stored : (d d1 d2 d3 : List ℕ) (a : Answer) → size ≤ length d
     → d1 ≡ put d (type_at + 8) (replicate 29 0)
@@ -24,16 +22,6 @@ stored d d1 d2 d3 a room q1 q2 q3 =
     let s2 = then_number s1 type_at 2 q2 refl in
     then_head s2 a 0 q3 refl
 
-returns : tie.Need-returns
+pub returns : goal.returns
 returns c =
-    let p3 = c.before.before in
-    let p2 = p3.before.before.before.before in
-    let p1 = p2.before.before.before.before in
-    (p3.put-report.ensures.0, stored _ _ _ _ _ p1.before.before.before.requires p1.put-zeros.ensures p2.put-u64.ensures p3.put-report.ensures.1)
-
-pub put-refused-spec : {M : Type 1} → statement M
-put-refused-spec =
-    tie.close
-    (tie.spec
-    (λ c. search rules) (λ c κs. search rules) (λ c κs. search rules) (λ c κs. search rules) (λ c. search rules)
-    returns)
+    record { value = c.put_report.ensures.value; out_after = stored _ _ _ _ _ c.requires c.put_zeros.ensures c.put_u64.ensures c.put_report.ensures.out_after }

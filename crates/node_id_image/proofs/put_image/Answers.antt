@@ -11,8 +11,7 @@ use Rattle.image.specs.Image.{little_endian_bytes, head}
 use Rattle.image.proofs.Laws.{last_part, then_part, then_number, then_byte, then_head}
 use Rattle.node_id_image.specs.NodeIdImage.{type_at, place_at, len_at, ipv4_at, ipv6_at, size, type_byte, record_image}
 use borrow.Author.Rules.{rules}
-use Rattle.node_id_image.proofs.put_image.Statement.{statement}
-use Rattle.node_id_image.proofs.put_image.Tie as tie
+use Rattle.node_id_image.proofs.put_image.Goals as goal
 
 stored : (d d1 d2 d3 d4 d5 d6 : List ℕ) (n : ℕ) (r : NodeId) (t : ℕ) → size ≤ length d
     → length r.ipv4_address ≡ 4
@@ -34,29 +33,11 @@ stored d d1 d2 d3 d4 d5 d6 n r t room l4 l6 et q1 q2 q3 q4 q5 q6 =
     let s5 = then_byte s4 type_at t q5 refl in
     rw et at (then_head s5 Done n q6 refl)
 
--- the arrays are as long as their types say
-lengths : (c : tie.Start) → (length c.args.«record».ipv4_address ≡ 4) × (length c.args.«record».ipv6_address ≡ 16)
-lengths c = (search rules, search rules)
+pub returns-then-out-lt-SIZE : goal.returns-then-out-lt-SIZE
+returns-then-out-lt-SIZE c = absurd (omega arith)
 
-returns : tie.Need-returns
-returns c = absurd (omega arith)
-
-returns-2 : tie.Need-returns-2
-returns-2 c =
-    let h = c.before.before in
-    let p5 = h.before.before.before.before in
-    let p4 = p5.before.before.before.before.before in
-    let p3 = p4.before.before.before.before in
-    let p2 = p3.before.before.before.before in
-    let p1 = p2.before.before.before.before.before in
-    let start = p1.before.before.before.before.before.before.before.before in
-    let (l4, l6) = lengths start in
-    stored _ _ _ _ _ _ _ _ _ _ start.requires l4 l6 p5.before.type-byte.ensures p1.put-bytes.ensures p2.put-bytes2.ensures p3.put-u64.ensures p4.put-u642.ensures p5.put_byte.ensures h.put-head.ensures
-
-pub put-image-spec : {M : Type 1} → statement M
-put-image-spec =
-    tie.close
-    (tie.spec
-    returns (λ c. search rules) (λ c κs. search rules) (λ c. search rules) (λ c κs. search rules)
-    (λ c κs. search rules) (λ c κs. search rules) (λ c κs. search rules) (λ c κs. search rules) (λ c κs. search rules)
-    (λ c. search rules) returns-2)
+pub returns : goal.returns
+returns c =
+    let l4 : length c.args.«record».ipv4_address ≡ 4 = search rules in
+    let l6 : length c.args.«record».ipv6_address ≡ 16 = search rules in
+    stored _ _ _ _ _ _ _ _ _ _ c.requires l4 l6 c.type_byte.ensures c.put_bytes.ensures c.put_bytes-2.ensures c.put_u64.ensures c.put_u64-2.ensures c.put_byte.ensures c.put_head.ensures
