@@ -6,9 +6,7 @@ use mathlib.Core.List.{List}
 use Rattle.octets.specs.Octets.{presence, big_endian_bytes, number_if, put}
 use Rattle.octets.proofs.Laws.{put_nil}
 use Rattle.outer_header_creation_image.proofs.Writing.{moves, stays}
-use borrow.Author.Rules.{rules}
-use Rattle.outer_header_creation_image.proofs.put_number_sent.Statement.{statement}
-use Rattle.outer_header_creation_image.proofs.put_number_sent.Tie as tie
+use Rattle.outer_header_creation_image.proofs.put_number_sent.Goals as goal
 
 module _ (at w : ℕ) (sent : Bool) (d : List ℕ) (x : ℕ) where
   there : (e : List ℕ) → sent ≡ true → e ≡ put d at (big_endian_bytes w x) → e ≡ put d at (number_if w (presence sent x))
@@ -19,11 +17,8 @@ module _ (at w : ℕ) (sent : Bool) (d : List ℕ) (x : ℕ) where
   unfolding presence number_if
   absent h = rw h (sym (put_nil d at))
 
-returns : tie.Need-returns
-returns c = (search moves, search there)
+pub returns-then-sent : goal.returns-then-sent
+returns-then-sent c = record { value = search moves; out_after = search there }
 
-returns-2 : tie.Need-returns-2
-returns-2 c = (search stays, search absent)
-
-pub put-number-sent-spec : {M : Type 1} → statement M
-put-number-sent-spec = tie.close (tie.spec (λ c κs. search rules) (λ c. search rules) (λ c. search rules) returns returns-2)
+pub returns : goal.returns
+returns c = record { value = search stays; out_after = search absent }

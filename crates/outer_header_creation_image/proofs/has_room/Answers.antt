@@ -10,9 +10,7 @@ use Rattle.outer_header_creation.specs.declared.FieldEnds.{FieldEnds}
 use Rattle.outer_header_creation.specs.Steps.{ends_of}
 use Rattle.outer_header_creation_image.specs.Steps.{sends_by}
 use Rattle.outer_header_creation_image.proofs.Writing.{length_most}
-use borrow.Author.Rules.{rules}
-use Rattle.outer_header_creation_image.proofs.has_room.Statement.{statement}
-use Rattle.outer_header_creation_image.proofs.has_room.Tie as tie
+use Rattle.outer_header_creation_image.proofs.has_room.Goals as goal
 
 fits : (f g room : ℕ) → 34 ≤ room → true ≡ leb (ends_of (sends_by f g)).stag room
 fits f g room h =
@@ -22,11 +20,8 @@ fits f g room h =
 counted : (f g room : ℕ) (a : SentFields) (e : FieldEnds) → a ≡ sends_by f g → e ≡ ends_of a → leb e.stag room ≡ leb (ends_of (sends_by f g)).stag room
 counted f g room a e p q = rw (q, p)
 
-returns : tie.Need-returns
-returns c = search fits
+pub returns-then-room-ge-MAX_LEN : goal.returns-then-room-ge-MAX_LEN
+returns-then-room-ge-MAX_LEN c = search fits
 
-returns-2 : tie.Need-returns-2
-returns-2 c = search counted
-
-pub has-room-spec : {M : Type 1} → statement M
-has-room-spec = tie.close (tie.spec returns (λ c κs. search rules) (λ c κs. search rules) returns-2)
+pub returns : goal.returns
+returns c = search counted

@@ -9,9 +9,7 @@ use Rattle.octets.proofs.Laws.{put_nil}
 use Rattle.outer_header_creation_image.specs.OuterHeaderCreationImage.{ipv4_at}
 use Rattle.outer_header_creation_image.specs.Steps.{ipv4_sent}
 use Rattle.outer_header_creation_image.proofs.Writing.{moves, stays}
-use borrow.Author.Rules.{rules}
-use Rattle.outer_header_creation_image.proofs.put_ipv4_sent.Statement.{statement}
-use Rattle.outer_header_creation_image.proofs.put_ipv4_sent.Tie as tie
+use Rattle.outer_header_creation_image.proofs.put_ipv4_sent.Goals as goal
 
 module _ (at : ℕ) (sent : Bool) (m d : List ℕ) where
   there : (e : List ℕ) (a : MaybeIpv4) → sent ≡ true → a ≡ ipv4_of (field m ipv4_at (if_set true 4)) → e ≡ put d at (bytes_if (ipv4_meaning a)) → e ≡ put d at (ipv4_sent m sent)
@@ -22,12 +20,8 @@ module _ (at : ℕ) (sent : Bool) (m d : List ℕ) where
   unfolding ipv4_sent if_set ipv4_of presence bytes_if
   absent h = rw h (sym (put_nil d at))
 
-returns : tie.Need-returns
-returns c = (search moves, search there)
+pub returns-then-sent : goal.returns-then-sent
+returns-then-sent c = record { value = search moves; out_after = search there }
 
-returns-2 : tie.Need-returns-2
-returns-2 c = (search stays, search absent)
-
-pub put-ipv4-sent-spec : {M : Type 1} → statement M
-put-ipv4-sent-spec =
-    tie.close (tie.spec (λ c κs. search rules) (λ c κs. search rules) (λ c. search rules) (λ c. search rules) returns returns-2)
+pub returns : goal.returns
+returns c = record { value = search stays; out_after = search absent }

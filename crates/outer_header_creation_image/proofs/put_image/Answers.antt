@@ -15,8 +15,7 @@ use Rattle.image.specs.Steps.{ZerosIfAbsent4, ZerosIfAbsent6}
 use Rattle.image.proofs.Laws.{last_field, then_byte, then_field, then_head, then_number}
 use Rattle.outer_header_creation_image.specs.OuterHeaderCreationImage.{flags_at, given_at, teid_at, port_at, ctag_at, stag_at, ipv4_at, ipv6_at, size, record_image}
 use borrow.Author.Rules.{rules}
-use Rattle.outer_header_creation_image.proofs.put_image.Statement.{statement}
-use Rattle.outer_header_creation_image.proofs.put_image.Tie as tie
+use Rattle.outer_header_creation_image.proofs.put_image.Goals as goal
 
 stored : (d d1 d2 d3 d4 d5 d6 d7 d8 d9 : List ℕ) (n : ℕ) (r : OuterHeaderCreation) (g f : ℕ) → size ≤ length d
     → f ≡ byte_of r.description
@@ -47,43 +46,24 @@ stored d d1 d2 d3 d4 d5 d6 d7 d8 d9 n r g f room ef z4 z6 l4 l6 eg q1 q2 q3 q4 q
     let s8 = then_byte s7 flags_at f q8 refl in
     rw (eg, ef) at (then_head s8 Done n q9 refl)
 
--- the arrays are as long as their types say
-lengths : (c : tie.Start) → (length c.args.«record».ipv4_address.octets ≡ 4) × (length c.args.«record».ipv6_address.octets ≡ 16)
-lengths c = (search rules, search rules)
+pub returns-then-out-lt-SIZE : goal.returns-then-out-lt-SIZE
+returns-then-out-lt-SIZE c = absurd (omega arith)
 
-returns : tie.Need-returns
-returns c = absurd (omega arith)
+pub slice_bounds-put_bytes-end : goal.slice_bounds-put_bytes-end
+slice_bounds-put_bytes-end c =
+    let l6 : length c.args.«record».ipv6_address.octets ≡ 16 = search rules in
+    search (rules, l6)
 
-slice-aggregate-put-bytes : tie.Need-slice-aggregate-put-bytes
-slice-aggregate-put-bytes c = let (l4, l6) = lengths c.before.before.before.before.before.before.before.before.before.before.before.before.before in search (rules, l6)
+pub slice_bounds-put_bytes-end-2 : goal.slice_bounds-put_bytes-end-2
+slice_bounds-put_bytes-end-2 c =
+    let l4 : length c.args.«record».ipv4_address.octets ≡ 4 = search rules in
+    search (rules, l4)
 
-slice-aggregate-put-bytes-2 : tie.Need-slice-aggregate-put-bytes-2
-slice-aggregate-put-bytes-2 c = let (l4, l6) = lengths c.before.before.before.before.before.before.before.before.before.before.before.before.before.before.before.before.before.before in search (rules, l4)
+pub returns : goal.returns
+returns c =
+    let l4 : length c.args.«record».ipv4_address.octets ≡ 4 = search rules in
+    let l6 : length c.args.«record».ipv6_address.octets ≡ 16 = search rules in
+    stored _ _ _ _ _ _ _ _ _ _ _ _ _ _ c.requires.size_in_bounds c.requires.flags_value c.requires.zeros_if_absent4 c.requires.zeros_if_absent6 l4 l6 c.flag_byte-given.ensures c.put_bytes.ensures c.put_bytes-2.ensures c.put_u64.ensures c.put_u64-2.ensures c.put_u64-3.ensures c.put_u64-4.ensures c.put_byte.ensures c.put_byte-2.ensures c.put_head.ensures
 
-returns-2 : tie.Need-returns-2
-returns-2 c =
-    let h = c.before.before in
-    let p8 = h.before.before.before.before in
-    let p7 = p8.before.before.before.before in
-    let p6 = p7.before.before.before.before in
-    let p5 = p6.before.before.before.before.before in
-    let p4 = p5.before.before.before.before.before in
-    let p3 = p4.before.before.before.before.before in
-    let p2 = p3.before.before.before.before.before in
-    let p1 = p2.before.before.before.before.before in
-    let g = p1.before.before.before in
-    let start = g.before.before.before.before.before.before.before.before.before.before.before in
-    let (l4, l6) = lengths start in
-    stored _ _ _ _ _ _ _ _ _ _ _ _ _ _ start.requires.0 start.requires.1.0 start.requires.1.1.0 start.requires.1.1.1 l4 l6 g.flag-byte.ensures p1.put-bytes.ensures p2.put-bytes2.ensures p3.put-u64.ensures p4.put-u642.ensures p5.put-u643.ensures p6.put-u644.ensures p7.put_byte.ensures p8.put-byte2.ensures h.put-head.ensures
-
-same_length : tie.Need-same-length
-same_length c = ap length (returns-2 c) ∙ length_put _ _ _
-
-pub put-image-spec : {M : Type 1} → statement M
-put-image-spec =
-    tie.close
-    (tie.spec
-    returns (λ c κs. search rules) slice-aggregate-put-bytes (λ c κs. search rules) slice-aggregate-put-bytes-2
-    (λ c κs. search rules) (λ c. search rules) (λ c κs. search rules) (λ c. search rules) (λ c κs. search rules)
-    (λ c. search rules) (λ c κs. search rules) (λ c. search rules) (λ c κs. search rules) (λ c κs. search rules)
-    (λ c κs. search rules) (λ c κs. search rules) same_length returns-2)
+pub shape_of-out : goal.shape_of-out
+shape_of-out c = ap length (returns c) ∙ length_put _ _ _
