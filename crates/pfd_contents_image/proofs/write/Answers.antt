@@ -13,9 +13,7 @@ use Rattle.pfd_contents.specs.PfdContents.{meaning, wire, write_refusal}
 use Rattle.image.specs.Image.{head_size}
 use Rattle.image.proofs.Laws.{write_short, write_long}
 use Rattle.pfd_contents_image.specs.PfdContentsImage.{size, record_at, writes, stores}
-use borrow.Author.Rules.{rules}
-use Rattle.pfd_contents_image.proofs.write.Statement.{statement}
-use Rattle.pfd_contents_image.proofs.write.Tie as tie
+use Rattle.pfd_contents_image.proofs.write.Goals as goal
 
 wrote : (m texts d : List ℕ) {r : PfdContents} {v : Written} {o : List ℕ} → r ≡ record_at m
     → (v ≡ answered (write_refusal texts r) (wire (meaning texts r)) (length d)) × (o ≡ stored (write_refusal texts r) d (wire (meaning texts r)))
@@ -23,31 +21,20 @@ wrote : (m texts d : List ℕ) {r : PfdContents} {v : Written} {o : List ℕ} �
 unfolding writes stores
 wrote m texts d e q = rw e at q
 
-long-image : (t : Bool) (a b : ℕ) → t ≡ (leb size a && leb head_size b) → not t ≡ false → size ≤ a
-long-image t a b k h = go (leb size a) refl (sym k ∙ not-false t h)
+long_image : (t : Bool) (a b : ℕ) → t ≡ (leb size a && leb head_size b) → not t ≡ false → size ≤ a
+long_image t a b k h = go (leb size a) refl (sym k ∙ not-false t h)
   where
     go : (u : Bool) → leb size a ≡ u → (u && leb head_size b) ≡ true → size ≤ a
     go true e q = leb-true size a e
     go false e q = absurd (false≢true q)
 
-returns : tie.Need-returns
-returns c = write_short _ _ _ _ c.before.long-enough.ensures c.if1.true
+pub returns-then-not-long_enough : goal.returns-then-not-long_enough
+returns-then-not-long_enough c = let all = write_short _ _ _ _ c.long_enough.ensures c.if-not-long_enough.true-raw in record { value = all.0; out_after = all.1.0; report_after = all.1.1 }
 
-returns-2 : tie.Need-returns-2
-returns-2 c =
-    let p = c.before.before in
-    let m = p.before.before.before in
-    let r = m.before.before.before in
-    write_long _ _ r.before.before.long-enough.ensures r.before.if1.false (wrote _ _ _ r.record-at.ensures m.marshal.ensures) p.put-report.ensures
+pub record_at-record-requires : goal.record_at-record-requires
+record_at-record-requires c =
+    let a = c.args in
+    long_image c.long_enough.result (length a.image.now) (length a.report.now) c.long_enough.ensures c.if-not-long_enough.false-raw
 
-record-at-requires : tie.Need-record-at-requires
-record-at-requires c κs =
-    let a = c.before.before.before.before.before.before.args in
-    long-image c.before.long-enough.result (length a.image.now) (length a.report.now) c.before.long-enough.ensures c.if1.false
-
-pub write_spec : {M : Type 1} → statement M
-write_spec =
-    tie.close
-    (tie.spec
-    (λ c κs. search rules) returns record-at-requires (λ c κs. search rules) (λ c κs. search rules)
-    (λ c. search rules) (λ c. search rules) returns-2)
+pub returns : goal.returns
+returns c = let all = write_long _ _ c.long_enough.ensures c.if-not-long_enough.false-raw (wrote _ _ _ c.record_at-record.ensures (c.marshal.ensures.value, c.marshal.ensures.out_after)) (c.put_report.ensures.value, c.put_report.ensures.out_after) in record { value = all.0; out_after = all.1.0; report_after = all.1.1 }

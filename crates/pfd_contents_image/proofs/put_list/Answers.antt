@@ -9,9 +9,7 @@ use Rattle.text_fields.specs.declared.TextList.{TextList}
 use Rattle.image.specs.Image.{little_endian_bytes}
 use Rattle.image.proofs.Laws.{length_little_endian_bytes_law, last_part, then_number}
 use Rattle.pfd_contents_image.specs.PfdContentsImage.{list_image}
-use borrow.Author.Rules.{rules}
-use Rattle.pfd_contents_image.proofs.put_list.Statement.{statement}
-use Rattle.pfd_contents_image.proofs.put_list.Tie as tie
+use Rattle.pfd_contents_image.proofs.put_list.Goals as goal
 
 stored : (d d1 d2 d3 : List ℕ) (at : ℕ) (l : TextList) → at + 24 ≤ length d
     → d1 ≡ put d (at + 16) (little_endian_bytes 8 l.count)
@@ -24,17 +22,6 @@ stored d d1 d2 d3 at l room q1 q2 q3 =
     let s2 = then_number s1 (at + 8) l.len q2 (omega arith) in
     (then_number s2 at l.place q3 (omega arith)).is
 
-returns : tie.Need-returns
+pub returns : goal.returns
 returns c =
-    let p3 = c.before.before in
-    let p2 = p3.before.before.before.before in
-    let p1 = p2.before.before.before.before in
-    let start = p1.before.before.before in
-    stored _ _ _ _ _ _ start.requires p1.put-u64.ensures p2.put-u642.ensures p3.put-u643.ensures
-
-pub put-list-spec : {M : Type 1} → statement M
-put-list-spec =
-    tie.close
-    (tie.spec
-    (λ c. search rules) (λ c κs. search rules) (λ c. search rules) (λ c κs. search rules) (λ c κs. search rules)
-    (λ c. search rules) returns)
+    stored _ _ _ _ _ _ c.requires c.put_u64.ensures c.put_u64-2.ensures c.put_u64-3.ensures

@@ -9,9 +9,7 @@ use Rattle.octets.specs.Octets.{bit}
 use Rattle.text_fields.specs.declared.MaybeText.{MaybeText}
 use Rattle.text_fields.specs.declared.TextList.{TextList}
 use Rattle.pfd_contents_image.specs.PfdContentsImage.{flags_at, given_at, flow_at, url_at, domain_at, custom_at, protocol_at, flows_at, urls_at, names_at, text_at, list_at, record_at}
-use borrow.Author.Rules.{rules}
-use Rattle.pfd_contents_image.proofs.record_at.Statement.{statement}
-use Rattle.pfd_contents_image.proofs.record_at.Tie as tie
+use Rattle.pfd_contents_image.proofs.record_at.Goals as goal
 
 found : (m : List ℕ) (f g : ℕ) (b0 b1 b2 b3 b4 : Bool) (flow url domain custom protocol : MaybeText) (flows urls names : TextList)
     → f ≡ get_or m flags_at 0
@@ -34,16 +32,16 @@ unfolding record_at
 found m f g b0 b1 b2 b3 b4 flow url domain custom protocol flows urls names q0 q1 q2 q3 q4 q5 q6 q7 q8 q9 q10 q11 q12 q13 q14 =
     rw (q14, q13, q12, q11, q10, q9, q8, q7, q6, q5, q4, q3, q2, q1, q0)
 
-list-at-requires : tie.Need-list-at-requires
-list-at-requires c κs = omega (arith, c.before.before.before.before.before.before.before.before.before.before.before.before.before.requires)
+pub list_at-requires : goal.list_at-requires
+list_at-requires c = omega (arith, c.requires)
 
-list-at-requires-2 : tie.Need-list-at-requires-2
-list-at-requires-2 c κs = omega (arith, c.before.before.before.before.before.before.before.before.before.before.before.before.before.before.requires)
+pub list_at-requires-2 : goal.list_at-requires-2
+list_at-requires-2 c = omega (arith, c.requires)
 
-list-at-requires-3 : tie.Need-list-at-requires-3
-list-at-requires-3 c κs = omega (arith, c.before.before.before.before.before.before.before.before.before.before.before.before.before.before.before.requires)
+pub list_at-requires-3 : goal.list_at-requires-3
+list_at-requires-3 c = omega (arith, c.requires)
 
-returns : tie.Need-returns
+pub returns : goal.returns
 returns c =
     let c15 = c in
     let c14 = c15.before in
@@ -60,12 +58,4 @@ returns c =
     let c3 = c4.before in
     let c2 = c3.before in
     let c1 = c2.before in
-    found _ _ _ _ _ _ _ _ _ _ _ _ _ _ _ _ c1.byte_at.ensures c2.byte-at2.ensures c3.bit.ensures c4.text_at.ensures c5.bit2.ensures c6.text-at2.ensures c7.bit3.ensures c8.text-at3.ensures c9.bit4.ensures c10.text-at4.ensures c11.bit5.ensures c12.text-at5.ensures c13.list_at.ensures c14.list-at2.ensures c15.list-at3.ensures
-
-pub record-at-spec : {M : Type 1} → statement M
-record-at-spec =
-    tie.close
-    (tie.spec
-    (λ c κs. search rules) (λ c κs. search rules) (λ c κs. search rules) (λ c κs. search rules) (λ c κs. search rules)
-    (λ c κs. search rules) (λ c κs. search rules) (λ c κs. search rules) (λ c κs. search rules) (λ c κs. search rules)
-    (λ c κs. search rules) (λ c κs. search rules) list-at-requires list-at-requires-2 list-at-requires-3 returns)
+    found _ _ _ _ _ _ _ _ _ _ _ _ _ _ _ _ c1.byte_at-flags.ensures c2.byte_at-given.ensures c3.bit.ensures c4.text_at.ensures c5.bit-2.ensures c6.text_at-2.ensures c7.bit-3.ensures c8.text_at-3.ensures c9.bit-4.ensures c10.text_at-4.ensures c11.bit-5.ensures c12.text_at-5.ensures c13.list_at.ensures c14.list_at-2.ensures c15.list_at-3.ensures

@@ -9,9 +9,7 @@ use Rattle.pfd_contents.specs.declared.PfdContents.{PfdContents}
 use Rattle.image.proofs.Laws.{last_part, then_part}
 use Rattle.pfd_contents_image.specs.PfdContentsImage.{flow_at, url_at, domain_at, custom_at, protocol_at, flows_at, size, text_image, texts_image}
 use Rattle.pfd_contents_image.proofs.Laws.{length_text}
-use borrow.Author.Rules.{rules}
-use Rattle.pfd_contents_image.proofs.put_texts.Statement.{statement}
-use Rattle.pfd_contents_image.proofs.put_texts.Tie as tie
+use Rattle.pfd_contents_image.proofs.put_texts.Goals as goal
 
 stored : (d d1 d2 d3 d4 d5 : List ℕ) (r : PfdContents) → size ≤ length d
     → d1 ≡ put d protocol_at (text_image r.domain_name_protocol)
@@ -28,19 +26,6 @@ stored d d1 d2 d3 d4 d5 r room q1 q2 q3 q4 q5 =
     let s4 = then_part s3 16 url_at _ (length_text r.url) q4 refl in
     (then_part s4 16 flow_at _ (length_text r.flow_description) q5 refl).is
 
-returns : tie.Need-returns
+pub returns : goal.returns
 returns c =
-    let p5 = c.before.before in
-    let p4 = p5.before.before.before.before in
-    let p3 = p4.before.before.before.before in
-    let p2 = p3.before.before.before.before in
-    let p1 = p2.before.before.before.before in
-    let start = p1.before.before.before in
-    stored _ _ _ _ _ _ _ start.requires p1.put-text.ensures p2.put-text2.ensures p3.put-text3.ensures p4.put-text4.ensures p5.put-text5.ensures
-
-pub put-texts-spec : {M : Type 1} → statement M
-put-texts-spec =
-    tie.close
-    (tie.spec
-    (λ c κs. search rules) (λ c κs. search rules) (λ c κs. search rules) (λ c κs. search rules) (λ c κs. search rules)
-    (λ c. search rules) returns)
+    stored _ _ _ _ _ _ _ c.requires c.put_text.ensures c.put_text-2.ensures c.put_text-3.ensures c.put_text-4.ensures c.put_text-5.ensures

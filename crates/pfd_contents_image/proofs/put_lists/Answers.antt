@@ -8,9 +8,7 @@ use Rattle.pfd_contents.specs.declared.PfdContents.{PfdContents}
 use Rattle.image.proofs.Laws.{last_part, then_part}
 use Rattle.pfd_contents_image.specs.PfdContentsImage.{flows_at, urls_at, names_at, size, list_image, lists_image}
 use Rattle.pfd_contents_image.proofs.Laws.{length_list}
-use borrow.Author.Rules.{rules}
-use Rattle.pfd_contents_image.proofs.put_lists.Statement.{statement}
-use Rattle.pfd_contents_image.proofs.put_lists.Tie as tie
+use Rattle.pfd_contents_image.proofs.put_lists.Goals as goal
 
 stored : (d d1 d2 d3 : List ℕ) (r : PfdContents) → size ≤ length d
     → d1 ≡ put d names_at (list_image r.additional_domain_name_and_protocol)
@@ -23,16 +21,6 @@ stored d d1 d2 d3 r room q1 q2 q3 =
     let s2 = then_part s1 24 urls_at _ (length_list r.additional_url) q2 refl in
     (then_part s2 24 flows_at _ (length_list r.additional_flow_description) q3 refl).is
 
-returns : tie.Need-returns
+pub returns : goal.returns
 returns c =
-    let p3 = c.before.before in
-    let p2 = p3.before.before.before.before in
-    let p1 = p2.before.before.before.before in
-    let start = p1.before.before.before in
-    stored _ _ _ _ _ start.requires p1.put-list.ensures p2.put-list2.ensures p3.put-list3.ensures
-
-pub put-lists-spec : {M : Type 1} → statement M
-put-lists-spec =
-    tie.close
-    (tie.spec
-    (λ c κs. search rules) (λ c κs. search rules) (λ c κs. search rules) (λ c. search rules) returns)
+    stored _ _ _ _ _ c.requires c.put_list.ensures c.put_list-2.ensures c.put_list-3.ensures

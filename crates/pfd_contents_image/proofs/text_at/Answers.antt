@@ -5,9 +5,7 @@ use mathlib.Core.Bool.{Bool}
 use mathlib.Core.List.{List}
 use Rattle.image.specs.Image.{number_at}
 use Rattle.pfd_contents_image.specs.PfdContentsImage.{text_at}
-use borrow.Author.Rules.{rules}
-use Rattle.pfd_contents_image.proofs.text_at.Statement.{statement}
-use Rattle.pfd_contents_image.proofs.text_at.Tie as tie
+use Rattle.pfd_contents_image.proofs.text_at.Goals as goal
 
 found : (m : List ℕ) (at : ℕ) (g : Bool) (p n : ℕ)
     → p ≡ number_at m at
@@ -16,13 +14,6 @@ found : (m : List ℕ) (at : ℕ) (g : Bool) (p n : ℕ)
 unfolding text_at
 found m at g p n q0 q1 = rw (q1, q0)
 
-returns : tie.Need-returns
+pub returns : goal.returns
 returns c =
-    let c1 = c.before in
-    found _ _ _ _ _ c1.number_at.ensures c.number-at2.ensures
-
-pub text-at-spec : {M : Type 1} → statement M
-text-at-spec =
-    tie.close
-    (tie.spec
-    (λ c κs. search rules) (λ c. search rules) (λ c κs. search rules) returns)
+    found _ _ _ _ _ c.number_at-place.ensures c.number_at-len.ensures

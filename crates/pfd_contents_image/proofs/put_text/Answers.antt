@@ -9,9 +9,7 @@ use Rattle.text_fields.specs.declared.MaybeText.{MaybeText}
 use Rattle.image.specs.Image.{little_endian_bytes}
 use Rattle.image.proofs.Laws.{length_little_endian_bytes_law, last_part, then_number}
 use Rattle.pfd_contents_image.specs.PfdContentsImage.{text_image}
-use borrow.Author.Rules.{rules}
-use Rattle.pfd_contents_image.proofs.put_text.Statement.{statement}
-use Rattle.pfd_contents_image.proofs.put_text.Tie as tie
+use Rattle.pfd_contents_image.proofs.put_text.Goals as goal
 
 stored : (d d1 d2 : List ℕ) (at : ℕ) (t : MaybeText) → at + 16 ≤ length d
     → d1 ≡ put d (at + 8) (little_endian_bytes 8 t.len)
@@ -22,15 +20,6 @@ stored d d1 d2 at t room q1 q2 =
     let s1 = last_part (at + 16) 8 (at + 8) (little_endian_bytes 8 t.len) room (length_little_endian_bytes_law 8 t.len) (omega arith) q1 in
     (then_number s1 at t.place q2 (omega arith)).is
 
-returns : tie.Need-returns
+pub returns : goal.returns
 returns c =
-    let p2 = c.before.before in
-    let p1 = p2.before.before.before.before in
-    let start = p1.before.before.before in
-    stored _ _ _ _ _ start.requires p1.put-u64.ensures p2.put-u642.ensures
-
-pub put-text-spec : {M : Type 1} → statement M
-put-text-spec =
-    tie.close
-    (tie.spec
-    (λ c. search rules) (λ c κs. search rules) (λ c κs. search rules) (λ c. search rules) returns)
+    stored _ _ _ _ _ c.requires c.put_u64.ensures c.put_u64-2.ensures
