@@ -6,7 +6,7 @@ use mathlib.Core.Bool.{Bool, true, false}
 use mathlib.Core.List.{List}
 use mathlib.Core.Option.{none}
 use lib.Dec.{leb, eqb}
-use lib.ListN.{length, take, drop, get_or, replicate, length-append, length-replicate}
+use lib.ListN.{length, drop, get_or, replicate, length-append, length-replicate}
 use borrow.Author.Tests.{leb-true, eqb-true}
 use Rattle.answer.specs.declared.Answer.{Answer}
 use Rattle.octets.specs.Octets.{pick, field}
@@ -17,7 +17,7 @@ use Rattle.node_id.specs.declared.NodeIdType.{NodeIdType}
 use Rattle.node_id.specs.declared.NodeIdType.TheVariants.{Ipv4, Ipv6, Fqdn}
 use Rattle.node_id.specs.declared.NodeId.{NodeId}
 use Rattle.node_id.specs.declared.NodeIdRead.{NodeIdRead}
-use Rattle.node_id.specs.NodeId.{Value, meaning, wire, of_ipv4, of_ipv6, named, refused, read_address, read_fqdn, by_type, read, reader, write_refusal}
+use Rattle.node_id.specs.NodeId.{meaning, wire, of_ipv4, of_ipv6, named, refused, read_address, read_fqdn, by_type, read, write_refusal}
 use Rattle.node_id.proofs.OfKind.{kind, writable}
 use Rattle.image.specs.Image.{read_image}
 use Rattle.image.proofs.Laws.{length_little_endian_bytes_law}

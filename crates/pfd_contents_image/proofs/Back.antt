@@ -1,12 +1,12 @@
 -- What stands in the image of a read is the record that was read, and writing it gives the cleared payload. No contract cites this file.
-use Prim.Native.Nat.{ℕ, zero, suc, ◌+◌, ◌-◌, ◌^◌, ◌≤◌, ◌<◌}
+use Prim.Native.Nat.{ℕ, zero, suc, ◌+◌, ◌^◌, ◌≤◌, ◌<◌}
 use native.Mathlib.Omega.{arith}
 use mathlib.Core.Path.{◌≡◌, refl, sym, ap, ◌∙◌}
 use mathlib.Core.Bool.{Bool, true, false, ◌||◌}
 use mathlib.Core.List.{List, ◌++◌}
 use mathlib.Core.Option.{none}
 use lib.Dec.{leb}
-use lib.ListN.{length, take, drop, get_or, length-append}
+use lib.ListN.{length, get_or, length-append}
 use borrow.Author.Tests.{leb-true}
 use Rattle.answer.specs.declared.Answer.{Answer}
 use Rattle.octets.specs.Octets.{pick, bit}
@@ -23,7 +23,7 @@ use Rattle.text_fields.specs.Fields.{field_at, on_field, entries, on_entries, no
 use Rattle.text_fields.proofs.Runs.{whole_end}
 use Rattle.pfd_contents.specs.declared.PfdContents.{PfdContents}
 use Rattle.pfd_contents.specs.declared.read.PfdContentsRead.{PfdContentsRead}
-use Rattle.pfd_contents.specs.PfdContents.{Value, meaning, wire, pfd_of, empty_pfd, refused, ◌into◌, read_fields, read, reader, write_refusal}
+use Rattle.pfd_contents.specs.PfdContents.{meaning, wire, pfd_of, empty_pfd, refused, ◌into◌, read_fields, read, write_refusal}
 use Rattle.pfd_contents.proofs.OfKind.{kind, writable}
 use Rattle.image.specs.Image.{little_endian_bytes, number_at, read_image}
 use Rattle.image.proofs.Back.{Stands, flag_back, apart, last, byte, number, ImageOf, image_left, Again}

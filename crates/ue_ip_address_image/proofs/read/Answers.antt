@@ -1,0 +1,57 @@
+-- `ue_ip_address_image::read` meets its contract: at each return, the tests that led there and what the calls handed over.
+use Prim.Native.Nat.{ℕ}
+use native.Mathlib.Omega.{arith}
+use mathlib.Core.Path.{◌≡◌, refl, sym, ◌∙◌}
+use mathlib.Core.Bool.{Bool, false, ◌||◌}
+use lib.ListN.{get_or}
+use borrow.Author.Rules.{rules}
+use Rattle.octets.specs.Octets.{bit}
+use Rattle.ue_ip_address.specs.UeIpAddress.{breaks_rule1, broken_rule}
+use Rattle.ue_ip_address.proofs.Rules.{neither, rule1}
+use Rattle.ue_ip_address.proofs.Returns.{too_long, no_head, forbidden}
+use Rattle.image.proofs.Laws.{read_short, read_long}
+use Rattle.ue_ip_address_image.proofs.Reading.{refusal}
+use Rattle.ue_ip_address_image.proofs.read.Goals as goal
+
+-- whether one of IPv6D and IP6PL is set
+flagged : (b : ℕ) {x y t u : Bool} → x ≡ bit 3 b → y ≡ bit 6 b → t ≡ x || y → t ≡ u → bit 3 b || bit 6 b ≡ u
+flagged b p q e h = rw (← p, ← q) (sym e ∙ h)
+
+-- with neither IPv6D nor IP6PL only rule 1 can be broken
+no_prefix : (b : ℕ) → breaks_rule1 b ≡ false → bit 3 b || bit 6 b ≡ false → (broken_rule b ≡ 0) × ((false ≡ bit 3 b) × (false ≡ bit 6 b))
+unfolding broken_rule
+no_prefix b k h = let (p3, p6) = neither (bit 3 b) (bit 6 b) h in (rw (k, p3, p6), (sym p3, sym p6))
+
+kept : (b : ℕ) {t : Bool} → t ≡ breaks_rule1 b → t ≡ false → breaks_rule1 b ≡ false
+kept b e h = sym e ∙ h
+
+pub returns-then-image-lt-SIZE : goal.returns-then-image-lt-SIZE
+returns-then-image-lt-SIZE c = let all = read_short _ _ _ c.if-image-lt-SIZE.true in record { value = all.0; image_after = all.1 }
+
+pub returns-then-n-lt-MIN_LEN : goal.returns-then-n-lt-MIN_LEN
+returns-then-n-lt-MIN_LEN c = let all = read_long _ _ _ (search rules) (refusal _ _ _ (c.put_short.ensures.value, c.put_short.ensures.out_after) (search no_head)) in record { value = all.0; image_after = all.1 }
+
+pub returns-then-n-gt65535 : goal.returns-then-n-gt65535
+returns-then-n-gt65535 c = let all = read_long _ _ _ (search rules) (refusal _ _ _ (c.put_refused.ensures.value, c.put_refused.ensures.out_after) (search too_long)) in record { value = all.0; image_after = all.1 }
+
+pub returns-then-breaks_rule_1 : goal.returns-then-breaks_rule_1
+returns-then-breaks_rule_1 c = let all = read_long _ _ _ (search rules) (refusal _ _ _ (c.put_flags.ensures.value, c.put_flags.ensures.out_after)
+    (forbidden _ (search rules) (search rules) _ _ (rule1 _ c.breaks_rule_1.ensures c.if-breaks_rule_1.true) (λ z. omega arith) refl)) in record { value = all.0; image_after = all.1 }
+
+pub read_prefixed-requires : goal.read_prefixed-requires
+read_prefixed-requires c =
+    let b = get_or c.args.payload.now 0 0 in
+    let set = flagged b c.bit.ensures c.bit-2.ensures c.either.ensures c.if-either.true in
+    record { size_in_bounds = search rules; in_bounds = search rules; payload_len_bound = search rules; payload_value = search kept; payload_value_2 = set }
+
+pub returns-then-either : goal.returns-then-either
+returns-then-either c = let all = read_long _ _ _ (search rules) (c.read_prefixed.ensures.value, c.read_prefixed.ensures.image_after) in record { value = all.0; image_after = all.1 }
+
+pub read_addresses-requires : goal.read_addresses-requires
+read_addresses-requires c =
+    let b = get_or c.args.payload.now 0 0 in
+    let unset = flagged b c.bit.ensures c.bit-2.ensures c.either.ensures c.if-either.false in let all = no_prefix b (search kept) unset in
+    record { size_in_bounds = search rules; in_bounds = search rules; payload_len_bound = search rules; payload_value = all.0; false_value = all.1.0; false_value_2 = all.1.1 }
+
+pub returns : goal.returns
+returns c = let all = read_long _ _ _ (search rules) (c.read_addresses.ensures.value, c.read_addresses.ensures.image_after) in record { value = all.0; image_after = all.1 }
