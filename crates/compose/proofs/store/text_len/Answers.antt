@@ -3,18 +3,10 @@ use Prim.Native.Nat.{ℕ, ◌*◌, ◌/◌, ◌≤◌, ◌<◌, ◌^◌}
 use native.Mathlib.Nat.{le_trans, lt_of_le_of_lt, mul-le-mul_left, mul-div-le}
 use native.Mathlib.Omega.{arith}
 use borrow.Author.Rules.{rules}
-use Rattle.compose.proofs.store.text_len.Statement.{statement}
-use Rattle.compose.proofs.store.text_len.Tie as tie
+use Rattle.compose.proofs.store.text_len.Goals as goal
 
 fits : (n k : ℕ) → k ≤ 300000 / n → n * k < 2 ^ 64
 fits n k h = lt_of_le_of_lt (le_trans (mul-le-mul_left n h) (mul-div-le 300000 n)) (omega arith)
 
-mul-result : tie.Need-overflow-mul-result
-mul-result c = record { fits = search (fits, rules) }
-
-pub text-len-spec : {M : Type 1} → statement M
-text-len-spec =
-    tie.close
-    (tie.spec
-    (λ c. search rules) (λ c. search rules) (λ c. search rules) (λ c. search rules) (λ c. search rules) mul-result
-    (λ c. search rules))
+pub overflow_mul-result : goal.overflow_mul-result
+overflow_mul-result c = record { fits = search (fits, rules) }
