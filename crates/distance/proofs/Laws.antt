@@ -1,11 +1,10 @@
 -- What the steps of the code give, and what the distance is worth. No contract cites this file.
-use Rattle.std.proofs.Common.{◌≡◌, ℕ, zero, suc, ◌+◌, ◌-◌, ◌*◌, ◌%◌, ◌^◌, ◌<◌, ◌≤◌, Bool, true, false, ltb, leb, ℤ, pos, negsuc, ◌+ℤ◌, ◌-ℤ◌, ◌*ℤ◌, neg_ℤ, ◌≤ℤ◌, sym, refl, ap, ◌∙◌, arith, le→leb, leb→le, w32, Fits, SFits, to_z, of_z, ltb-false, ltb-true, le-ltb, lt-ltb, le-leb, leb-false, leb-true}
+use Rattle.std.proofs.Common.{◌≡◌, ℕ, zero, suc, ◌+◌, ◌-◌, ◌*◌, ◌%◌, ◌<◌, ◌≤◌, Bool, true, false, ltb, leb, ℤ, pos, negsuc, ◌+ℤ◌, ◌-ℤ◌, ◌*ℤ◌, neg_ℤ, sym, refl, ap, ◌∙◌, arith, le→leb, leb→le, w32, SFits, to_z, of_z, ltb-false, ltb-true, le-ltb, lt-ltb, le-leb, leb-false, leb-true}
 use lib.IntN.{sub_ℕ, pos-ne-negsuc}
 use lib.Signed.{mag}
 use mir.ValLaws.{to_z_pos, to_z-of_z}
 use borrow.Author.Tests.{lt-leb}
 use Rattle.answer.specs.declared.Answer.TheVariants.{Done, NoSequenceNumber}
-use Rattle.distance.specs.declared.Distance.{Distance}
 use Rattle.distance.specs.Distance.{forward, signed, signed_distance, distance, InRange, Leads, Laws}
 use Rattle.distance.proofs.Integers.{sub_less, sub_eq, sub_inj, add_sub, up, down, view, times}
 

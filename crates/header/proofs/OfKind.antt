@@ -1,11 +1,11 @@
 -- A header is a kind of fixed fields. No contract cites this file.
-use Prim.Native.Nat.{ℕ, ◌+◌, ◌≤◌, ◌<◌}
+use Prim.Native.Nat.{ℕ, ◌+◌, ◌≤◌}
 use native.Mathlib.Omega.{arith}
 use mathlib.Core.Path.{◌≡◌, refl, sym, ap, ◌∙◌}
 use mathlib.Core.Bool.{Bool, true}
 use mathlib.Core.List.{List, [], ◌∷◌, ◌++◌}
 use lib.ListN.{length, get_or, take, drop}
-use Rattle.octets.specs.Octets.{bit, if_set, Bytes, field, big_endian, big_endian_bytes, number_if, presence}
+use Rattle.octets.specs.Octets.{bit, if_set, Bytes, field, big_endian, number_if, presence}
 use Rattle.octets.proofs.Laws.{take_head, field_split, length_field, bytes_take, bytes_drop, bytes_field, number_again}
 use Rattle.kind.specs.Layout.{clear}
 use Rattle.kind.specs.Kind.{Reads, Kind}

@@ -6,7 +6,7 @@ use mathlib.Core.Path.{◌≡◌, refl, sym, ap, ◌∙◌}
 use mathlib.Core.Bool.{Bool, true, false}
 use mathlib.Core.List.{List, [], ◌∷◌, ◌++◌, append_assoc, append-nil}
 use lib.Dec.{eqb, lit<}
-use lib.ListN.{length, take, drop, get_or, replicate, length-append, length-replicate}
+use lib.ListN.{length, take, drop, get_or, replicate, length-append}
 use lib.Pow.{shr-shr}
 use lib.Seq.{take_at, drop_at, drop-drop, get_or-drop}
 use borrow.Author.Tests.{le-leb, eqb-true}

@@ -9,8 +9,7 @@ use lib.Bits.{bit_and, and_le_l, and_mask}
 use lib.Dec.{leb}
 use lib.ListN.{length, get_or, take}
 use borrow.Author.Tests.{le-leb, lt-leb, leb-true}
-use Rattle.answer.specs.declared.Answer.{Answer}
-use Rattle.answer.specs.declared.Answer.TheVariants.{Done, Short, Flags, InputTooLong}
+use Rattle.answer.specs.declared.Answer.TheVariants.{Done, Short, InputTooLong}
 use Rattle.octets.specs.Octets.{pick, bit, if_set, Bytes, field}
 use Rattle.octets.proofs.Laws.{field_take}
 use Rattle.octets.proofs.Masks.{bit_kept, and_and}

@@ -1,5 +1,5 @@
 -- What `read` accepts, by the type. No contract cites this file.
-use Prim.Native.Nat.{ℕ, zero, suc, ◌+◌, ◌≤◌, ◌<◌}
+use Prim.Native.Nat.{ℕ, zero, suc, ◌+◌, ◌≤◌}
 use native.Mathlib.Omega.{arith}
 use mathlib.Core.Path.{◌≡◌, refl, sym}
 use mathlib.Core.Bool.{Bool, true, false}
@@ -9,7 +9,7 @@ use lib.Dec.{leb, eqb}
 use lib.ListN.{length, get_or, drop}
 use borrow.Author.Tests.{eq-eqb, leb-true, eqb-true}
 use Rattle.answer.specs.declared.Answer.{Answer}
-use Rattle.answer.specs.declared.Answer.TheVariants.{Done, Short, NodeType, NotUtf8, InputTooLong}
+use Rattle.answer.specs.declared.Answer.TheVariants.{Done, Short, NotUtf8, InputTooLong}
 use Rattle.octets.specs.Octets.{pick, field}
 use Rattle.text.specs.Utf8.{good_len, checked}
 use Rattle.texts.specs.Texts.{is_text}

@@ -7,7 +7,7 @@ use mathlib.Core.Option.{none}
 use lib.ListN.{length, get_or, take, drop, length-drop}
 use lib.Seq.{length-take-le, take-length, take_all}
 use borrow.Author.Tests.{le-leb, eq-eqb}
-use Rattle.octets.specs.Octets.{Bytes, field, put}
+use Rattle.octets.specs.Octets.{Bytes, field}
 use Rattle.octets.proofs.Laws.{bytes_take, field_take, take_first}
 use Rattle.text.specs.Utf8.{good_len}
 use Rattle.texts.specs.Texts.{is_text}

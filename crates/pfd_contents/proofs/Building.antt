@@ -9,7 +9,7 @@ use lib.ListN.{length}
 use Rattle.answer.specs.declared.Answer.TheVariants.{Done, InputTooLong, BadText, Unbuilt}
 use Rattle.octets.specs.Octets.{if_set, flag_byte}
 use Rattle.kind.specs.Write.{◌then◌}
-use Rattle.text_fields.specs.Fields.{list, is_empty}
+use Rattle.text_fields.specs.Fields.{is_empty}
 use Rattle.pfd_contents.specs.PfdContents.{pfd_of, tested}
 use Rattle.pfd_contents.specs.Steps.{as_refusal}
 use Rattle.pfd_contents.specs.Builder.{added_to, built_record, fresh, built, any, unbuilt, build_refusal, built_by, present}

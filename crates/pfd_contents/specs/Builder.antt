@@ -5,7 +5,7 @@ use Rattle.answer.specs.declared.Answer.{Answer}
 use Rattle.answer.specs.declared.Answer.TheVariants.{Done, Unbuilt}
 use Rattle.octets.specs.Octets.{pick, flag_byte}
 use Rattle.kind.specs.Write.{◌then◌, too_long_input}
-use Rattle.text_fields.specs.Fields.{no_text, no_list, list, is_empty}
+use Rattle.text_fields.specs.Fields.{no_text, no_list, is_empty}
 use Rattle.pfd_contents.specs.PfdContents.{pfd_of, tested, empty_pfd}
 use Rattle.text_fields.specs.declared.MaybeText.{MaybeText}
 use Rattle.text_fields.specs.declared.TextList.{TextList}

@@ -1,5 +1,5 @@
 -- What the part of a list from a place on begins with.
-use Rattle.std.proofs.Common.{◌≡◌, refl, ◌∙◌, sym, ap, ℕ, suc, ◌+◌, ◌<◌, ◌≤◌, List, [], ◌∷◌, Bool, true, false, take, drop, length, get_or, eqb, arith}
+use Rattle.std.proofs.Common.{◌≡◌, ℕ, ◌+◌, ◌<◌, ◌≤◌, List, take, length, get_or, eqb, arith}
 use Rattle.std.proofs.Math.Seq.{drop-cons}
 use native.Mathlib.Numerals.{add-one}
 use Rattle.std.proofs.Common.{get_or-take}

@@ -1,5 +1,5 @@
 -- Laws of a row: which bytes its ranges have, and how many bytes of a text agree with it.
-use mathlib.Core.Path.{◌≡◌, refl, sym, ◌∙◌}
+use mathlib.Core.Path.{◌≡◌, refl, ◌∙◌}
 use mathlib.Core.Bool.{Bool, true, false, cond, not, ◌&&◌, and-false, false≢true}
 use mathlib.Core.List.{List, [], ◌∷◌}
 use Prim.Native.Nat.{ℕ, zero, suc, ◌+◌, ◌-◌, ◌≤◌, ◌<◌, min, zero-le}
@@ -8,7 +8,7 @@ use native.Mathlib.Numerals.{add-one}
 use native.Mathlib.Omega.{arith}
 use borrow.Author.Tests.{le-leb, lt-leb, leb-true, not-true, not-false}
 use lib.Dec.{leb}
-use lib.ListN.{length, get_or, take, drop, replicate, length-take, length-drop, length-replicate}
+use lib.ListN.{length, get_or, drop, replicate, length-take, length-drop, length-replicate}
 use lib.Seq.{get_or-drop, get_or-take}
 use Rattle.text.specs.declared.Row.{Row}
 use Rattle.text.specs.Utf8.{Range, ◌to◌, within, agree}

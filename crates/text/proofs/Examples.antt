@@ -2,7 +2,6 @@
 use mathlib.Core.Path.{◌≡◌, refl}
 use mathlib.Core.List.{List, [], ◌∷◌, map}
 use Prim.Native.Nat.{ℕ}
-use Rattle.text.specs.declared.Checked.{Checked}
 use Rattle.text.specs.Utf8.{rows, agree, seq_len, walk, good_len, best, bad_len, checked}
 
 -- A text, its good length and how many bytes after that are bad.

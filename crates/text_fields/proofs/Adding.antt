@@ -9,7 +9,7 @@ use lib.Dec.{eqb}
 use lib.ListN.{length}
 use Rattle.answer.specs.declared.Answer.TheVariants.{Done, InputTooLong, BadText}
 use Rattle.kind.specs.Write.{◌then◌}
-use Rattle.text_fields.specs.Fields.{field_at, on_field, entry_end, is_list, is_empty, entries, on_entries, is_behind, bad, added, add_refusal, added_by, with_entry, list, run_of}
+use Rattle.text_fields.specs.Fields.{field_at, on_field, entry_end, is_list, is_empty, entries, on_entries, is_behind, bad, added, add_refusal, added_by, run_of}
 use Rattle.text_fields.specs.declared.TextList.{TextList}
 use Rattle.text_fields.specs.declared.fields.Field.{Field}
 use Rattle.text_fields.specs.declared.fields.Field.TheVariants.{Absent, Whole, Faulty}

@@ -1,5 +1,4 @@
 -- `distance::signed_distance` meets its contract: at each return, the tests that led there and what the subtraction handed over.
-use Rattle.std.proofs.Common.{rules}
 use Rattle.distance.proofs.Laws.{above_from, above_to, back_fits, done_near, done_far}
 use Rattle.distance.proofs.signed_distance.Goals as goal
 

@@ -1,7 +1,6 @@
 -- `f_teid::broken` meets its contract: the tests that lead to each return, rule behind rule.
 use mathlib.Core.Path.{◌≡◌}
 use mathlib.Core.Bool.{Bool, true, false, not, ◌&&◌, ◌||◌}
-use borrow.Author.Rules.{rules}
 use Rattle.f_teid.specs.declared.FteidBuilder.{FteidBuilder}
 use Rattle.f_teid.specs.Builder.{broken}
 use Rattle.f_teid.proofs.broken.Goals as goal

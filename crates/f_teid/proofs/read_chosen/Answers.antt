@@ -1,5 +1,4 @@
 -- `f_teid::read_chosen` meets its contract: at each return, the tests that led there and what the calls handed over.
-use borrow.Author.Rules.{rules}
 use Rattle.f_teid.proofs.Returns.{choose_id_fits, no_choose_id, chosen}
 use Rattle.f_teid.proofs.read_chosen.Goals as goal
 

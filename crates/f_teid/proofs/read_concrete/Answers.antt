@@ -1,5 +1,4 @@
 -- `f_teid::read_concrete` meets its contract: at each return, the tests that led there and what the calls handed over.
-use borrow.Author.Rules.{rules}
 use Rattle.octets.proofs.Laws.{part_width}
 use Rattle.f_teid.proofs.Returns.{teid_fits, no_teid_law, no_ipv4_law, no_ipv6_law, whole}
 use Rattle.f_teid.proofs.read_concrete.Goals as goal

@@ -1,5 +1,4 @@
 -- `f_teid::refused` meets its contract.
-use borrow.Author.Rules.{rules}
 use Rattle.f_teid.specs.Fteid.{refused}
 use Rattle.f_teid.proofs.refused.Goals as goal
 

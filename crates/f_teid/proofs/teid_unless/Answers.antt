@@ -1,5 +1,4 @@
 -- `f_teid::teid_unless` meets its contract.
-use borrow.Author.Rules.{rules}
 use Rattle.f_teid.proofs.teid_unless.Goals as goal
 
 pub returns-then-flag : goal.returns-then-flag

@@ -5,7 +5,6 @@ use mathlib.Core.Path.{◌≡◌, refl, ap, ◌∙◌}
 use mathlib.Core.Bool.{true, false}
 use mathlib.Core.List.{List, [], ◌∷◌}
 use lib.ListN.{length}
-use borrow.Author.Rules.{rules}
 use Rattle.octets.specs.Octets.{if_set, flag_byte, number_if, presence, put}
 use Rattle.octets.proofs.Laws.{flags_padded, number_length, Puts, ends, then}
 use Rattle.kind.proofs.Cases.{no_room, all_put}

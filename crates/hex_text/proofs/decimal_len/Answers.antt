@@ -1,11 +1,9 @@
 -- `hex::decimal_len` meets its contract. The invariant: the digits passed, and those of the rest, one counted twice.
-use Prim.Native.Nat.{ℕ, ◌+◌, ◌≤◌, ◌<◌}
+use Prim.Native.Nat.{ℕ, ◌≤◌, ◌<◌}
 use native.Mathlib.Omega.{arith}
-use mathlib.Core.Path.{◌≡◌}
 use lib.ListN.{length}
 use Rattle.hex_text.specs.Hex.{decimal}
 use Rattle.hex_text.proofs.Laws.{decimal_some, decimal_most, length_last, length_one}
-use borrow.Author.Rules.{rules}
 use Rattle.hex_text.proofs.decimal_len.Goals as goal
 
 -- a number of 64 bits has at most 20 digits

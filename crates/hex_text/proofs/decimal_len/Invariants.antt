@@ -1,10 +1,7 @@
-use Prim.Native.Nat.{◌+◌, ◌≤◌}
-use native.Mathlib.Omega.{arith}
+use Prim.Native.Nat.{◌+◌}
 use mathlib.Core.Path.{◌≡◌}
 use lib.ListN.{length}
 use Rattle.hex_text.specs.Hex.{decimal}
-use Rattle.hex_text.proofs.Laws.{decimal_some, decimal_most, length_last, length_one}
-use borrow.Author.Rules.{rules}
 use Rattle.hex_text.proofs.decimal_len.Given as goal
 
 abbrev pub invariant-loop-rest : goal.invariant-loop-rest

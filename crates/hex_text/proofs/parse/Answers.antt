@@ -1,12 +1,9 @@
 -- `hex::parse` meets its contract. The invariant: the pairs passed stand in the output, and the others are still to come.
-use Prim.Native.Nat.{◌+◌, ◌-◌, ◌*◌, ◌/◌, ◌≤◌, min}
+use Prim.Native.Nat.{◌+◌, ◌*◌}
 use native.Mathlib.Omega.{arith}
-use mathlib.Core.Path.{◌≡◌, refl}
-use lib.ListN.{length}
+use mathlib.Core.Path.{refl}
 use Rattle.hex_text.specs.Hex.{worth}
-use Rattle.hex_text.proofs.Table.{tabled}
-use Rattle.hex_text.proofs.Laws.{worth_or, looked_up, looked_most, Parsed, parsed_none, parsed_bad, parsed_more, parsed_all}
-use borrow.Author.Rules.{rules}
+use Rattle.hex_text.proofs.Laws.{looked_up, looked_most, parsed_none, parsed_bad, parsed_more, parsed_all}
 use Rattle.hex_text.proofs.parse.Goals as goal
 
 pub loop-i-init : goal.loop-i-init

@@ -1,11 +1,8 @@
-use Prim.Native.Nat.{◌+◌, ◌-◌, ◌*◌, ◌/◌, ◌≤◌, min}
-use native.Mathlib.Omega.{arith}
-use mathlib.Core.Path.{◌≡◌, refl}
+use Prim.Native.Nat.{◌-◌, ◌/◌, ◌≤◌, min}
+use mathlib.Core.Path.{◌≡◌}
 use lib.ListN.{length}
-use Rattle.hex_text.specs.Hex.{worth}
 use Rattle.hex_text.proofs.Table.{tabled}
-use Rattle.hex_text.proofs.Laws.{worth_or, looked_up, looked_most, Parsed, parsed_none, parsed_bad, parsed_more, parsed_all}
-use borrow.Author.Rules.{rules}
+use Rattle.hex_text.proofs.Laws.{worth_or, Parsed}
 use Rattle.hex_text.proofs.parse.Given as goal
 
 abbrev pub invariant-loop-i : goal.invariant-loop-i

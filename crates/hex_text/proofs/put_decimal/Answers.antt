@@ -1,13 +1,9 @@
 -- `hex::put_decimal` meets its contract. The invariant: what is left to write, written now, gives the same output as writing all at first.
-use Prim.Native.Nat.{◌+◌, ◌≤◌}
 use native.Mathlib.Omega.{arith}
-use mathlib.Core.Path.{◌≡◌, refl, sym, ◌∙◌}
-use lib.ListN.{length, length-set}
-use Rattle.octets.specs.Octets.{over, put}
+use mathlib.Core.Path.{refl, sym, ◌∙◌}
+use lib.ListN.{length-set}
 use Rattle.octets.proofs.Laws.{put_fits, put_not}
-use Rattle.hex_text.specs.Hex.{decimal}
 use Rattle.hex_text.proofs.Laws.{decimal_some, length_last, over_last, over_first}
-use borrow.Author.Rules.{rules}
 use Rattle.hex_text.proofs.put_decimal.Goals as goal
 
 pub returns-then-out-len : goal.returns-then-out-len

@@ -1,12 +1,8 @@
 use Prim.Native.Nat.{◌+◌, ◌≤◌}
-use native.Mathlib.Omega.{arith}
-use mathlib.Core.Path.{◌≡◌, refl, sym, ◌∙◌}
-use lib.ListN.{length, length-set}
+use mathlib.Core.Path.{◌≡◌}
+use lib.ListN.{length}
 use Rattle.octets.specs.Octets.{over, put}
-use Rattle.octets.proofs.Laws.{put_fits, put_not}
 use Rattle.hex_text.specs.Hex.{decimal}
-use Rattle.hex_text.proofs.Laws.{decimal_some, length_last, over_last, over_first}
-use borrow.Author.Rules.{rules}
 use Rattle.hex_text.proofs.put_decimal.Given as goal
 
 abbrev pub invariant-loop-rest : goal.invariant-loop-rest

@@ -1,14 +1,10 @@
 -- `hex::put_hex` meets its contract. The invariant: what is left to write, written now, gives the same output as writing all at first.
-use Prim.Native.Nat.{◌+◌, ◌-◌, ◌*◌, ◌≤◌}
 use native.Mathlib.Nat.{add-zero}
 use native.Mathlib.Omega.{arith}
-use mathlib.Core.Path.{◌≡◌, refl, sym, ◌∙◌}
-use lib.ListN.{length, drop, length-set}
-use Rattle.octets.specs.Octets.{put}
+use mathlib.Core.Path.{refl, sym, ◌∙◌}
+use lib.ListN.{length-set}
 use Rattle.octets.proofs.Laws.{put_not}
-use Rattle.hex_text.specs.Hex.{spelled}
 use Rattle.hex_text.proofs.Laws.{length_spelled, spelled_more, spelled_all}
-use borrow.Author.Rules.{rules}
 use Rattle.hex_text.proofs.put_hex.Goals as goal
 
 pub returns-then-out-bs : goal.returns-then-out-bs

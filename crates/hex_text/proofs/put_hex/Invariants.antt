@@ -1,13 +1,8 @@
 use Prim.Native.Nat.{◌+◌, ◌-◌, ◌*◌, ◌≤◌}
-use native.Mathlib.Nat.{add-zero}
-use native.Mathlib.Omega.{arith}
-use mathlib.Core.Path.{◌≡◌, refl, sym, ◌∙◌}
-use lib.ListN.{length, drop, length-set}
+use mathlib.Core.Path.{◌≡◌}
+use lib.ListN.{length, drop}
 use Rattle.octets.specs.Octets.{put}
-use Rattle.octets.proofs.Laws.{put_not}
 use Rattle.hex_text.specs.Hex.{spelled}
-use Rattle.hex_text.proofs.Laws.{length_spelled, spelled_more, spelled_all}
-use borrow.Author.Rules.{rules}
 use Rattle.hex_text.proofs.put_hex.Given as goal
 
 abbrev pub invariant-loop-i : goal.invariant-loop-i

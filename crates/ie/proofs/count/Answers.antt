@@ -1,11 +1,6 @@
 -- `ie::count` meets its contract. The invariant: the IEs passed and those from `place` on come to the whole.
-use borrow.Author.Rules.{rules}
 use native.Mathlib.Omega.{arith}
-use Prim.Native.Nat.{◌≤◌, ◌-◌}
-use mathlib.Core.Path.{◌≡◌, refl}
-use lib.ListN.{length, drop}
-use Rattle.ie.specs.Ie.{ies}
-use Rattle.ie.specs.Steps.{counted}
+use mathlib.Core.Path.{refl}
 use Rattle.ie.proofs.Walks.{passed, count_end, count_stop, count_step}
 use Rattle.ie.proofs.count.Goals as goal
 

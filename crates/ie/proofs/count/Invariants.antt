@@ -1,11 +1,8 @@
-use borrow.Author.Rules.{rules}
-use native.Mathlib.Omega.{arith}
 use Prim.Native.Nat.{◌≤◌, ◌-◌}
-use mathlib.Core.Path.{◌≡◌, refl}
+use mathlib.Core.Path.{◌≡◌}
 use lib.ListN.{length, drop}
 use Rattle.ie.specs.Ie.{ies}
 use Rattle.ie.specs.Steps.{counted}
-use Rattle.ie.proofs.Walks.{passed, count_end, count_stop, count_step}
 use Rattle.ie.proofs.count.Given as goal
 
 abbrev pub invariant-loop-place : goal.invariant-loop-place

@@ -1,5 +1,4 @@
 -- `ie::end_of` meets its contract: by its tests, in their order.
-use borrow.Author.Rules.{rules}
 use Rattle.ie.proofs.Envelopes.{no_head, zero_length, by_vendor, by_other}
 use Rattle.ie.proofs.end_of.Goals as goal
 

@@ -1,11 +1,8 @@
 -- `ie::fill` meets its contract. The invariant: the rows stored and those from `at` on come to the whole table.
-use borrow.Author.Rules.{rules}
 use native.Mathlib.Omega.{arith}
-use Prim.Native.Nat.{◌≤◌, ◌-◌}
-use mathlib.Core.Path.{◌≡◌, refl}
-use lib.ListN.{length, length-set}
-use Rattle.ie.specs.Ie.{ies, filled}
-use Rattle.ie.proofs.Tables.{Left, starts, is_whole, has_room, fill_end, fill_bounds, fill_step}
+use mathlib.Core.Path.{refl}
+use lib.ListN.{length-set}
+use Rattle.ie.proofs.Tables.{starts, is_whole, has_room, fill_end, fill_bounds, fill_step}
 use Rattle.ie.proofs.fill.Goals as goal
 
 pub loop-at-init : goal.loop-at-init

@@ -1,10 +1,8 @@
-use borrow.Author.Rules.{rules}
-use native.Mathlib.Omega.{arith}
 use Prim.Native.Nat.{◌≤◌, ◌-◌}
-use mathlib.Core.Path.{◌≡◌, refl}
-use lib.ListN.{length, length-set}
+use mathlib.Core.Path.{◌≡◌}
+use lib.ListN.{length}
 use Rattle.ie.specs.Ie.{ies, filled}
-use Rattle.ie.proofs.Tables.{Left, starts, is_whole, has_room, fill_end, fill_bounds, fill_step}
+use Rattle.ie.proofs.Tables.{Left}
 use Rattle.ie.proofs.fill.Given as goal
 
 abbrev pub invariant-loop-at : goal.invariant-loop-at

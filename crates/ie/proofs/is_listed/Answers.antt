@@ -1,9 +1,6 @@
 -- `ie::is_listed` meets its contract. The invariant: the rest of the list has the type exactly where all of it has.
 use borrow.Author.Rules.{rules}
-use Prim.Native.Nat.{◌≤◌, ◌-◌}
-use mathlib.Core.Path.{◌≡◌, refl}
-use lib.ListN.{length, drop}
-use Rattle.ie.specs.Ie.{listed}
+use mathlib.Core.Path.{refl}
 use Rattle.ie.proofs.Lists.{here, not_here, at_end}
 use Rattle.ie.proofs.is_listed.Goals as goal
 

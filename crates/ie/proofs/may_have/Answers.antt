@@ -1,5 +1,4 @@
 -- `ie::may_have` meets its contract: by the length.
-use borrow.Author.Rules.{rules}
 use Rattle.ie.proofs.Lists.{not_empty, by_list}
 use Rattle.ie.proofs.may_have.Goals as goal
 

@@ -1,5 +1,4 @@
 -- `ie::pair` meets its contract: two bytes make a number.
-use borrow.Author.Rules.{rules}
 use mathlib.Core.Path.{refl}
 use native.Mathlib.Omega.{arith}
 use Rattle.octets.proofs.Laws.{number_part, part_below}

@@ -1,5 +1,4 @@
 -- `ie::payload_end` meets its contract: by its test.
-use borrow.Author.Rules.{rules}
 use Rattle.ie.proofs.Envelopes.{cut, whole}
 use Rattle.ie.proofs.payload_end.Goals as goal
 

@@ -1,5 +1,4 @@
 -- `ie::vendor_end` meets its contract: by its tests, in their order.
-use borrow.Author.Rules.{rules}
 use Rattle.ie.proofs.Envelopes.{no_vendor, too_small, vendor_last}
 use Rattle.ie.proofs.vendor_end.Goals as goal
 

@@ -2,7 +2,6 @@ use Prim.Native.Nat.{ℕ, ◌≤◌}
 use mathlib.Core.Path.{◌≡◌, sym}
 use mathlib.Core.List.{List}
 use lib.ListN.{length, get_or, get_or-eq_default}
-use borrow.Author.Rules.{rules}
 use Rattle.image.proofs.byte_at.Goals as goal
 
 past : (s : List ℕ) (at : ℕ) → length s ≤ at → 0 ≡ get_or s at 0

@@ -1,5 +1,4 @@
 -- `image::put_refused` meets its contract: zeros behind the head, then the head, are one put of the image.
-use mathlib.Core.Path.{refl}
 use borrow.Author.Rules.{rules}
 use Rattle.image.proofs.Laws.{refusal_not, refusal_put}
 use Rattle.image.proofs.put_refused.Goals as goal

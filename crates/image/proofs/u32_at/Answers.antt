@@ -1,5 +1,4 @@
 -- `image::u32_at` meets its contract: the number of a part that is as wide as the flag says.
-use borrow.Author.Rules.{rules}
 use Rattle.octets.specs.Octets.{u32_of}
 use Rattle.image.proofs.Laws.{part_value_law}
 use Rattle.image.proofs.u32_at.Goals as goal

@@ -6,7 +6,6 @@ use lib.ListN.{length, take, drop, get_or, replicate, length-append, length-take
 use lib.Seq.{take-length}
 use Rattle.image.specs.Image.{little_endian, number_at}
 use Rattle.image.proofs.Laws.{eight, zeros, zeros_behind}
-use borrow.Author.Rules.{rules}
 use Rattle.image.proofs.u64_at.Goals as goal
 
 short : (m p : List ℕ) (at : ℕ) → p ≡ take 8 (drop at m) → length p ≤ 8

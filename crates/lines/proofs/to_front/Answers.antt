@@ -1,10 +1,8 @@
 -- `lines::to_front` meets its contract. The invariant: the first i bytes are moved, and nothing behind them has changed.
-use Prim.Native.Nat.{◌-◌, ◌≤◌}
 use native.Mathlib.Omega.{arith}
-use mathlib.Core.Path.{◌≡◌, refl}
-use lib.ListN.{length, length-set}
-use Rattle.octets.specs.Octets.{field}
-use Rattle.lines.proofs.Laws.{front, length_there, moved_on, moved_all}
+use mathlib.Core.Path.{refl}
+use lib.ListN.{length-set}
+use Rattle.lines.proofs.Laws.{length_there, moved_on, moved_all}
 use borrow.Author.Rules.{rules}
 use Rattle.lines.proofs.to_front.Goals as goal
 

@@ -1,10 +1,8 @@
 use Prim.Native.Nat.{◌-◌, ◌≤◌}
-use native.Mathlib.Omega.{arith}
-use mathlib.Core.Path.{◌≡◌, refl}
-use lib.ListN.{length, length-set}
+use mathlib.Core.Path.{◌≡◌}
+use lib.ListN.{length}
 use Rattle.octets.specs.Octets.{field}
-use Rattle.lines.proofs.Laws.{front, length_there, moved_on, moved_all}
-use borrow.Author.Rules.{rules}
+use Rattle.lines.proofs.Laws.{front}
 use Rattle.lines.proofs.to_front.Given as goal
 
 abbrev pub invariant-loop-i : goal.invariant-loop-i

@@ -1,9 +1,5 @@
 -- `node_id::read_fqdn` meets its contract: by whether all behind the type is well formed.
-use native.Mathlib.Omega.{arith}
-use lib.ListN.{length, take, drop, length-drop}
-use Rattle.text.proofs.Laws.{good_fits}
 use Rattle.node_id.proofs.Returns.{garbled_name, whole_name}
-use borrow.Author.Rules.{rules}
 use Rattle.node_id.proofs.read_fqdn.Goals as goal
 
 pub returns-then-good-n : goal.returns-then-good-n

@@ -1,6 +1,5 @@
 -- `node_id::read_ipv4` meets its contract: by whether the address is there.
 use Rattle.node_id.proofs.Returns.{cut_address, whole_ipv4}
-use borrow.Author.Rules.{rules}
 use Rattle.node_id.proofs.read_ipv4.Goals as goal
 
 pub returns-then-n-lt5 : goal.returns-then-n-lt5

@@ -3,7 +3,6 @@ use native.Mathlib.Omega.{arith}
 use mathlib.Core.Path.{◌≡◌}
 use Rattle.node_id.specs.NodeId.{by_type}
 use Rattle.node_id.proofs.Returns.{no_type}
-use borrow.Author.Rules.{rules}
 use Rattle.node_id.proofs.read_typed.Goals as goal
 
 pub returns-then-kind-eq0 : goal.returns-then-kind-eq0

@@ -1,6 +1,5 @@
 -- `node_id::refused` meets its contract.
 use Rattle.node_id.specs.NodeId.{refused}
-use borrow.Author.Rules.{rules}
 use Rattle.node_id.proofs.refused.Goals as goal
 
 pub returns : goal.returns

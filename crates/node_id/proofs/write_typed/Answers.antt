@@ -1,5 +1,4 @@
 -- `node_id::write_typed` meets its contract: by the two limits, and two puts are one.
-use borrow.Author.Rules.{rules}
 use Rattle.node_id.proofs.Writing.{too_wide, short, done}
 use Rattle.node_id.proofs.write_typed.Goals as goal
 

@@ -6,7 +6,6 @@ use mathlib.Core.Bool.{Bool}
 use mathlib.Core.List.{[], ◌∷◌}
 use Rattle.octets.specs.Octets.{if_set, flag_byte}
 use Rattle.octets.proofs.Laws.{if_set_times_law}
-use borrow.Author.Rules.{rules}
 use Rattle.octets.proofs.flag_byte.Goals as goal
 
 eight : (f0 f1 f2 f3 f4 f5 f6 f7 : Bool) (u0 u1 u2 u3 u4 u5 u6 u7 : ℕ)

@@ -1,14 +1,7 @@
 use Prim.Native.Nat.{◌≤◌, ◌<◌, ◌-◌, ◌^◌}
-use mathlib.Core.Path.{◌≡◌, refl, sym, ◌∙◌}
-use native.Mathlib.Omega.{arith}
-use native.Mathlib.Numerals.{add-one}
-use native.Mathlib.Nat.{pow-suc, one-le-pow}
+use mathlib.Core.Path.{◌≡◌}
 use lib.ListN.{length, drop}
-use lib.Arith.{digits_lt}
-use lib.Dec.{lit<}
-use borrow.Author.Tests.{le-leb, lt-leb}
 use Rattle.octets.specs.Octets.{behind}
-use Rattle.octets.proofs.Laws.{behind_step, behind_end, room}
 use Rattle.octets.proofs.fold_big_endian.Given as goal
 
 abbrev pub invariant-loop-i : goal.invariant-loop-i

@@ -1,5 +1,4 @@
 -- `octets::load_big_endian` meets its contract: the four bytes, swapped.
-use borrow.Author.Rules.{rules}
 use Prim.Native.Nat.{◌+◌}
 use Rattle.octets.proofs.Laws.{swapped_four}
 use Rattle.octets.proofs.load_big_endian.Goals as goal

@@ -1,7 +1,6 @@
 -- `octets::number` meets its contract: eight and four bytes by their halves, others one after the other.
 use native.Mathlib.Omega.{arith}
 use Rattle.octets.proofs.Laws.{number_four, number_eight, number_equals}
-use borrow.Author.Rules.{rules}
 use Rattle.octets.proofs.number.Goals as goal
 
 pub returns-then-bs-eq8 : goal.returns-then-bs-eq8

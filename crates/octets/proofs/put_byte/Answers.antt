@@ -2,7 +2,6 @@
 use mathlib.Core.Path.{sym}
 use native.Mathlib.Omega.{arith}
 use Rattle.octets.proofs.Laws.{put_not, put_set}
-use borrow.Author.Rules.{rules}
 use Rattle.octets.proofs.put_byte.Goals as goal
 
 pub returns-then-at-out : goal.returns-then-at-out

@@ -2,7 +2,6 @@
 use mathlib.Core.Path.{sym}
 use native.Mathlib.Omega.{arith}
 use Rattle.octets.proofs.Laws.{put_not, copy_part}
-use borrow.Author.Rules.{rules}
 use Rattle.octets.proofs.put_bytes.Goals as goal
 
 pub returns-then-out-bs : goal.returns-then-out-bs

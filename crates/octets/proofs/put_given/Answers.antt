@@ -2,7 +2,6 @@
 use mathlib.Core.Path.{sym}
 use Rattle.octets.specs.Octets.{presence, bytes_if}
 use Rattle.octets.proofs.Laws.{put_nil}
-use borrow.Author.Rules.{rules}
 use Rattle.octets.proofs.put_given.Goals as goal
 
 pub returns-then-given : goal.returns-then-given

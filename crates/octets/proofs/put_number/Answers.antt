@@ -1,9 +1,7 @@
 -- `octets::put_number` meets its contract. The invariant: what is left to write, written now, gives the same output as writing all at first.
-use Prim.Native.Nat.{◌≤◌}
-use mathlib.Core.Path.{◌≡◌, refl, sym, ◌∙◌}
+use mathlib.Core.Path.{refl, sym, ◌∙◌}
 use native.Mathlib.Omega.{arith}
-use lib.ListN.{length, length-set}
-use Rattle.octets.specs.Octets.{big_endian_bytes, over}
+use lib.ListN.{length-set}
 use Rattle.octets.proofs.Laws.{length_big_endian_bytes_law, over_number, over_none, put_fits, put_not}
 use Rattle.octets.proofs.put_number.Goals as goal
 

@@ -1,9 +1,7 @@
 use Prim.Native.Nat.{◌≤◌}
-use mathlib.Core.Path.{◌≡◌, refl, sym, ◌∙◌}
-use native.Mathlib.Omega.{arith}
-use lib.ListN.{length, length-set}
+use mathlib.Core.Path.{◌≡◌}
+use lib.ListN.{length}
 use Rattle.octets.specs.Octets.{big_endian_bytes, over}
-use Rattle.octets.proofs.Laws.{length_big_endian_bytes_law, over_number, over_none, put_fits, put_not}
 use Rattle.octets.proofs.put_number.Given as goal
 
 abbrev pub invariant-loop-left : goal.invariant-loop-left

@@ -2,7 +2,6 @@
 use mathlib.Core.Path.{sym}
 use Rattle.octets.specs.Octets.{presence, number_if}
 use Rattle.octets.proofs.Laws.{put_nil}
-use borrow.Author.Rules.{rules}
 use Rattle.octets.proofs.put_number_given.Goals as goal
 
 pub returns-then-given : goal.returns-then-given

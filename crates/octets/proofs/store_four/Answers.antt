@@ -1,7 +1,6 @@
 -- `octets::store_four` meets its contract: four stores are one put.
 use native.Mathlib.Omega.{arith}
 use lib.ListN.{length-set}
-use borrow.Author.Rules.{rules}
 use Rattle.octets.proofs.Laws.{four_stored}
 use Rattle.octets.proofs.store_four.Goals as goal
 

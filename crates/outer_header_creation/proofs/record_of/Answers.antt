@@ -1,6 +1,5 @@
 -- `outer_header_creation::record_of` meets its contract: field by field.
 use Rattle.outer_header_creation.proofs.Returns.{parts}
-use borrow.Author.Rules.{rules}
 use Rattle.outer_header_creation.proofs.record_of.Goals as goal
 
 pub returns : goal.returns

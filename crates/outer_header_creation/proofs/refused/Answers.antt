@@ -1,6 +1,5 @@
 -- `outer_header_creation::refused` meets its contract.
 use Rattle.outer_header_creation.specs.OuterHeaderCreation.{refused}
-use borrow.Author.Rules.{rules}
 use Rattle.outer_header_creation.proofs.refused.Goals as goal
 
 pub returns : goal.returns

@@ -1,6 +1,5 @@
 -- `outer_header_creation::teid_of` meets its contract.
 use Rattle.outer_header_creation.specs.OuterHeaderCreation.{teid_of}
-use borrow.Author.Rules.{rules}
 use Rattle.outer_header_creation.proofs.teid_of.Goals as goal
 
 pub returns : goal.returns

@@ -1,5 +1,4 @@
 -- `strict::accepted_and` meets its contract: the answer is number 0 just where the test says so.
-use borrow.Author.Rules.{rules}
 use Rattle.strict.proofs.accepted_and.Goals as goal
 
 pub returns : goal.returns

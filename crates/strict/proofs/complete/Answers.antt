@@ -1,5 +1,4 @@
 -- `strict::complete` meets its contract: the eight tests in a row, of what the record means.
-use borrow.Author.Rules.{rules}
 use Rattle.pfd_contents.specs.PfdContents.{meaning}
 use Rattle.text_fields.specs.Fields.{text_meaning, list_meaning}
 use Rattle.strict.specs.Strict as spec

@@ -1,5 +1,4 @@
 -- `strict::f_teid` meets its contract: what was read is what the definition reads.
-use borrow.Author.Rules.{rules}
 use Rattle.f_teid.specs.Fteid.{meaning}
 use Rattle.strict.specs.Strict.{verdict}
 use Rattle.strict.proofs.f_teid.Goals as goal

@@ -1,5 +1,4 @@
 -- `strict::fseid` meets its contract: what was read is what the definition reads.
-use borrow.Author.Rules.{rules}
 use Rattle.fseid.specs.Fseid.{meaning}
 use Rattle.strict.specs.Strict.{verdict}
 use Rattle.strict.proofs.fseid.Goals as goal

@@ -1,5 +1,4 @@
 -- `strict::node_id` meets its contract: what was read is what the definition reads once the payload is cleared.
-use borrow.Author.Rules.{rules}
 use Rattle.strict.specs.Strict.{verdict}
 use Rattle.strict.proofs.node_id.Goals as goal
 

@@ -1,5 +1,4 @@
 -- `strict::outer_header_creation` meets its contract: what was read is what the definition reads.
-use borrow.Author.Rules.{rules}
 use Rattle.strict.specs.Strict.{verdict}
 use Rattle.strict.proofs.outer_header_creation.Goals as goal
 

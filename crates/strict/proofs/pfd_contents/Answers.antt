@@ -1,5 +1,4 @@
 -- `strict::pfd_contents` meets its contract: what was read is what the definition reads.
-use borrow.Author.Rules.{rules}
 use Rattle.strict.specs.Strict.{verdict}
 use Rattle.strict.proofs.pfd_contents.Goals as goal
 

@@ -1,5 +1,4 @@
 -- `strict::still_complete` meets its contract: the two tests, joined.
-use borrow.Author.Rules.{rules}
 use Rattle.strict.proofs.still_complete.Goals as goal
 
 pub returns : goal.returns

@@ -1,5 +1,4 @@
 -- `strict::ue_ip_address` meets its contract: what was read is what the definition reads.
-use borrow.Author.Rules.{rules}
 use Rattle.strict.specs.Strict.{verdict}
 use Rattle.strict.proofs.ue_ip_address.Goals as goal
 

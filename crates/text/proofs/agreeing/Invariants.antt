@@ -1,6 +1,5 @@
 use Prim.Native.Nat.{◌-◌, ◌≤◌}
-use borrow.Author.Rules.{rules}
-use Rattle.text.proofs.Agree.{Agreed, agreed_first, agreed_end, agreed_stop, agreed_more}
+use Rattle.text.proofs.Agree.{Agreed}
 use Rattle.text.proofs.agreeing.Given as goal
 
 abbrev pub invariant-loop-i : goal.invariant-loop-i

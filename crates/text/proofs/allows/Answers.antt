@@ -1,7 +1,4 @@
-use mathlib.Core.Path.{◌≡◌, ◌∙◌, sym, ap}
 use native.Mathlib.Omega.{arith}
-use borrow.Author.Rules.{rules}
-use Rattle.text.specs.Utf8.{Range, within}
 use Rattle.text.specs.Steps.{range_at}
 use Rattle.text.proofs.Agree.{third_range}
 use Rattle.text.proofs.allows.Goals as goal

@@ -1,12 +1,10 @@
 use mathlib.Core.Path.{◌≡◌}
 use mathlib.Core.Bool.{false≢true}
-use Prim.Native.Nat.{◌+◌, ◌-◌, ◌≤◌, ◌<◌}
+use Prim.Native.Nat.{◌+◌}
 use native.Mathlib.Nat.{add_assoc}
 use native.Mathlib.Omega.{arith}
 use borrow.Author.Tests.{ltb-true}
-use borrow.Author.Rules.{rules}
-use lib.ListN.{length, get_or}
-use Rattle.text.specs.Steps.{Ascii}
+use lib.ListN.{get_or}
 use Rattle.text.proofs.Laws.{ascii_none, ascii_more, or_ascii}
 use Rattle.text.proofs.ascii_at.Goals as goal
 

@@ -1,11 +1,6 @@
-use Prim.Native.Nat.{◌-◌, ◌≤◌}
 use native.Mathlib.Omega.{arith}
-use borrow.Author.Rules.{rules}
-use lib.ListN.{length}
-use Rattle.text.specs.Steps.{Passed}
 use Rattle.text.proofs.Laws.{passed_on, passed_run}
 use Rattle.text.proofs.ascii_end.Goals as goal
-use Rattle.text.proofs.ascii_end.Lts as at
 
 pub loop-at-smaller : goal.loop-at-smaller
 loop-at-smaller c =

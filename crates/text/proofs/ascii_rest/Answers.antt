@@ -1,13 +1,11 @@
 use mathlib.Core.Path.{◌≡◌}
 use Prim.Native.Nat.{◌+◌, ◌-◌}
 use native.Mathlib.Omega.{arith}
-use borrow.Author.Rules.{rules}
 use mathlib.Core.Bool.{false≢true}
 use lib.ListN.{length}
 use Rattle.text.specs.Steps.{Ascii}
 use Rattle.text.proofs.Laws.{passed_run}
 use Rattle.text.proofs.ascii_rest.Goals as goal
-use Rattle.text.proofs.ascii_rest.Lts as at
 
 pub returns-then-text-lt-WORD : goal.returns-then-text-lt-WORD
 returns-then-text-lt-WORD c e = absurd (false≢true e)

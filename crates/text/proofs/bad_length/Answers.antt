@@ -1,4 +1,3 @@
-use borrow.Author.Rules.{rules}
 use Rattle.text.proofs.Laws.{nothing_bad, bad_behind}
 use Rattle.text.proofs.bad_length.Goals as goal
 

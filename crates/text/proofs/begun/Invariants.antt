@@ -1,10 +1,6 @@
-use mathlib.Core.Path.{◌≡◌}
 use Prim.Native.Nat.{◌-◌, ◌≤◌}
 use lib.ListN.{get_or}
-use borrow.Author.Rules.{rules}
-use Rattle.text.specs.Utf8.{rows}
-use Rattle.text.specs.Steps.{ranges, row_for}
-use Rattle.text.proofs.Table.{Sought, row_full, row_found, row_passed, lead_agrees, begun_row, begun_none}
+use Rattle.text.proofs.Table.{Sought}
 use Rattle.text.proofs.begun.Given as goal
 
 abbrev pub invariant-loop-k : goal.invariant-loop-k

@@ -1,4 +1,3 @@
-use borrow.Author.Rules.{rules}
 use Rattle.text.proofs.Laws.{checked_of}
 use Rattle.text.proofs.examine.Goals as goal
 

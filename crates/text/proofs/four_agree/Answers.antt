@@ -1,10 +1,7 @@
 use native.Mathlib.Omega.{arith}
-use borrow.Author.Rules.{rules}
 use borrow.Author.Tests.{not-false}
-use mathlib.Core.Bool.{false≢true}
 use Rattle.text.proofs.Table.{grown}
 use Rattle.text.proofs.four_agree.Goals as goal
-use Rattle.text.proofs.four_agree.Lts as at
 
 pub returns : goal.returns
 returns c e =

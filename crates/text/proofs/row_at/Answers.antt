@@ -1,8 +1,6 @@
 -- The code's table has the rows of the definition's.
 use mathlib.Core.Path.{sym}
 use mathlib.Core.List.{List, map}
-use Prim.Native.Nat.{ℕ}
-use borrow.Author.Rules.{rules}
 use lib.ListN.{length, get_or, get_or-map}
 use Rattle.text.specs.declared.Row.{Row}
 use Rattle.text.specs.Utf8.{Range, rows}

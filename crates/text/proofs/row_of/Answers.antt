@@ -1,10 +1,9 @@
 use mathlib.Core.Path.{◌≡◌, sym, ◌∙◌}
-use Prim.Native.Nat.{◌-◌, ◌≤◌}
 use native.Mathlib.Omega.{arith}
 use borrow.Author.Rules.{rules}
 use Rattle.text.specs.Utf8.{rows}
 use Rattle.text.specs.Steps.{ranges, row_for}
-use Rattle.text.proofs.Table.{Sought, row_found, row_passed}
+use Rattle.text.proofs.Table.{row_found, row_passed}
 use Rattle.text.proofs.row_of.Goals as goal
 
 pub returns-then-allows : goal.returns-then-allows

@@ -1,5 +1,4 @@
 use native.Mathlib.Omega.{arith}
-use borrow.Author.Rules.{rules}
 use lib.ListN.{length}
 use Rattle.text.proofs.Laws.{passed_on, good_end, ended, ended_all, ended_on}
 use Rattle.text.proofs.scan.Goals as goal

@@ -1,11 +1,6 @@
-use Prim.Native.Nat.{◌-◌}
-use native.Mathlib.Omega.{arith}
 use borrow.Author.Rules.{rules}
-use lib.ListN.{length}
-use Rattle.text.specs.Steps.{Passed}
 use Rattle.text.proofs.Laws.{passed_none, passed_on, good_end, ended, ended_on}
 use Rattle.text.proofs.scan_from.Goals as goal
-use Rattle.text.proofs.scan_from.Lts as at
 
 pub loop-at-init : goal.loop-at-init
 loop-at-init c = search (rules, passed_none)

@@ -1,8 +1,4 @@
-use Prim.Native.Nat.{◌-◌}
-use native.Mathlib.Omega.{arith}
 use borrow.Author.Rules.{rules}
-use lib.ListN.{length}
-use Rattle.text.specs.Steps.{Passed}
 use Rattle.text.proofs.Laws.{passed_none, passed_on}
 use Rattle.text.proofs.stride.Goals as goal
 

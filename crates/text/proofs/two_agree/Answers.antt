@@ -1,4 +1,3 @@
-use borrow.Author.Rules.{rules}
 use mathlib.Core.Bool.{false≢true}
 use Rattle.text.proofs.Table.{two_grown}
 use Rattle.text.proofs.two_agree.Goals as goal

@@ -1,11 +1,6 @@
-use Prim.Native.Nat.{◌-◌}
-use native.Mathlib.Omega.{arith}
 use borrow.Author.Rules.{rules}
-use lib.ListN.{length}
-use Rattle.text.specs.Steps.{Passed}
 use Rattle.text.proofs.Laws.{passed_none, passed_on, inside, passed_whole, good_ends, good_end, ended}
 use Rattle.text.proofs.walk.Goals as goal
-use Rattle.text.proofs.walk.Lts as at
 
 pub loop-at-init : goal.loop-at-init
 loop-at-init c = search passed_none

@@ -1,9 +1,6 @@
 use Prim.Native.Nat.{◌-◌}
-use native.Mathlib.Omega.{arith}
-use borrow.Author.Rules.{rules}
 use lib.ListN.{length}
 use Rattle.text.specs.Steps.{Passed}
-use Rattle.text.proofs.Laws.{passed_none, passed_on, inside, passed_whole, good_ends, good_end, ended}
 use Rattle.text.proofs.walk.Given as goal
 
 abbrev pub invariant-loop-at : goal.invariant-loop-at

@@ -1,5 +1,4 @@
 -- `ue_ip_address::breaks_rule_2` meets its contract: both flags.
-use borrow.Author.Rules.{rules}
 use Rattle.ue_ip_address.proofs.breaks_rule_2.Goals as goal
 
 pub returns : goal.returns

@@ -2,7 +2,6 @@
 use Prim.Native.Nat.{ℕ}
 use mathlib.Core.Path.{◌≡◌}
 use mathlib.Core.Bool.{Bool, not, ◌&&◌, ◌||◌}
-use borrow.Author.Rules.{rules}
 use Rattle.octets.specs.Octets.{bit}
 use Rattle.ue_ip_address.specs.UeIpAddress.{breaks_rule3}
 use Rattle.ue_ip_address.proofs.breaks_rule_3.Goals as goal

@@ -1,5 +1,4 @@
 -- `ue_ip_address::broken_rule` meets its contract: the rules in their order.
-use borrow.Author.Rules.{rules}
 use Rattle.ue_ip_address.proofs.Rules.{rule1, rule2, rule3, no_rule}
 use Rattle.ue_ip_address.proofs.broken_rule.Goals as goal
 

@@ -1,5 +1,4 @@
 -- `ue_ip_address::refused` meets its contract: a record that chooses nothing is the empty one.
-use borrow.Author.Rules.{rules}
 use Rattle.ue_ip_address.specs.UeIpAddress.{choosing, refused}
 use Rattle.ue_ip_address.proofs.refused.Goals as goal
 

@@ -1,5 +1,4 @@
 -- `answer::Answer::values` meets its contract: case by case.
-use borrow.Author.Rules.{rules}
 use Rattle.answer.proofs.Answer.values.Goals as goal
 
 pub returns-in-Done : goal.returns-in-Done

@@ -1,5 +1,4 @@
 -- `f_teid::Fteid::new_with_choose` meets its contract: by CH.
-use borrow.Author.Rules.{rules}
 use borrow.Author.Tests.{not-true, not-false}
 use Rattle.f_teid.proofs.Fteid.new_with_choose.Goals as goal
 

@@ -2,7 +2,6 @@
 use Prim.Native.Nat.{ℕ, zero, suc}
 use mathlib.Core.Path.{◌≡◌, refl}
 use mathlib.Core.Bool.{Bool, ◌||◌}
-use borrow.Author.Rules.{rules}
 use Rattle.answer.specs.declared.Answer.TheVariants.{Done, Unbuilt}
 use Rattle.types.specs.declared.Teid.{Teid}
 use Rattle.octets.specs.Octets.{pick}

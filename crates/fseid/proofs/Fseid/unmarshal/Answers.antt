@@ -1,5 +1,4 @@
 -- `fseid::Fseid::unmarshal` meets its contract: at each return, the tests that led there and what the calls handed over.
-use borrow.Author.Rules.{rules}
 use Rattle.octets.proofs.Laws.{part_width}
 use Rattle.fseid.proofs.Returns.{too_long, no_head, no_ipv4, no_ipv6, whole}
 use Rattle.fseid.proofs.Fseid.unmarshal.Goals as goal

@@ -1,11 +1,10 @@
 -- `header::Header::marshal` meets its contract: six puts, one behind the other, are one put of the written form.
 use Prim.Native.Nat.{ℕ, ◌+◌}
 use native.Mathlib.Omega.{arith}
-use mathlib.Core.Path.{◌≡◌, refl, ap, ◌∙◌}
+use mathlib.Core.Path.{◌≡◌, refl}
 use mathlib.Core.Bool.{Bool, false}
-use mathlib.Core.List.{List, [], ◌∷◌, ◌++◌}
+use mathlib.Core.List.{List, [], ◌∷◌}
 use lib.ListN.{length, length-append}
-use borrow.Author.Rules.{rules}
 use Rattle.octets.specs.Octets.{bit, if_set, flag_byte, big_endian_bytes, number_if, presence, put}
 use Rattle.octets.proofs.Laws.{length_big_endian_bytes_law, number_length, Puts, ends, then}
 use Rattle.kind.proofs.Cases.{no_room, all_put}

@@ -1,5 +1,4 @@
 -- `ie::Ie::unmarshal` meets its contract: 5, then what the tests say, then the record.
-use borrow.Author.Rules.{rules}
 use Rattle.ie.proofs.Envelopes.{ends, too_long, refused_one, found_one}
 use Rattle.ie.proofs.Ie.unmarshal.Goals as goal
 

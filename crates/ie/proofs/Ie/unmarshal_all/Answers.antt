@@ -1,6 +1,5 @@
 -- `ie::Ie::unmarshal_all` meets its contract: 5, then what the first way finds, 8, then the second way.
 use native.Mathlib.Omega.{arith}
-use borrow.Author.Rules.{rules}
 use Rattle.ie.proofs.Calls.{too_long, too_long_left, refused, refused_left, no_room, no_room_left, has_room, done, done_table}
 use Rattle.ie.proofs.Ie.unmarshal_all.Goals as goal
 

@@ -1,6 +1,5 @@
 -- `node_id::NodeId::marshal` meets its contract: by the lent slice, then by the kind.
 use Prim.Native.Nat.{ℕ, ◌≤◌, ◌<◌}
-use native.Mathlib.Omega.{arith}
 use mathlib.Core.Path.{◌≡◌}
 use mathlib.Core.Bool.{Bool, true, false, not}
 use mathlib.Core.List.{List, ◌∷◌}
@@ -13,7 +12,6 @@ use Rattle.kind.specs.Write.{◌then◌, too_long_output, answered, stored}
 use Rattle.node_id.specs.declared.NodeIdType.TheVariants.{Ipv4, Ipv6, Fqdn}
 use Rattle.node_id.specs.declared.NodeId.{NodeId}
 use Rattle.node_id.specs.NodeId.{meant, meaning, wire, textual, write_refusal}
-use borrow.Author.Rules.{rules}
 use Rattle.node_id.proofs.NodeId.marshal.Goals as goal
 
 module _ (texts : List ℕ) (r : NodeId) where

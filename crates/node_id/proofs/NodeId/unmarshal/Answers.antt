@@ -2,7 +2,6 @@
 use mathlib.Core.Path.{◌∙◌, ap}
 use Rattle.kind.proofs.Laws.{clear_low}
 use Rattle.node_id.specs.NodeId.{read}
-use borrow.Author.Rules.{rules}
 use Rattle.node_id.proofs.NodeId.unmarshal.Goals as goal
 
 pub returns : goal.returns

@@ -1,6 +1,5 @@
 -- `node_id::NodeId::unmarshal_masked` meets its contract: by the length, then by the type under the mask.
 use Rattle.node_id.proofs.Returns.{masked_too_long, masked_empty, masked_typed}
-use borrow.Author.Rules.{rules}
 use Rattle.node_id.proofs.NodeId.unmarshal_masked.Goals as goal
 
 pub returns-then-n-gt65535 : goal.returns-then-n-gt65535

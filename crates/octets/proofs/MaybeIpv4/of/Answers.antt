@@ -7,7 +7,6 @@ use Rattle.octets.specs.declared.MaybeIpv4.{MaybeIpv4}
 use borrow.Author.Tests.{eq-eqb, ne_eqb}
 use Rattle.octets.specs.Octets.{ipv4_of}
 use Rattle.octets.proofs.Laws.{copy_whole}
-use borrow.Author.Rules.{rules}
 use Rattle.octets.proofs.MaybeIpv4.of.Goals as goal
 
 pub returns-then-bs-ne4 : goal.returns-then-bs-ne4

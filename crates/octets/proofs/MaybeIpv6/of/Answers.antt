@@ -7,7 +7,6 @@ use Rattle.octets.specs.declared.MaybeIpv6.{MaybeIpv6}
 use borrow.Author.Tests.{eq-eqb, ne_eqb}
 use Rattle.octets.specs.Octets.{ipv6_of}
 use Rattle.octets.proofs.Laws.{copy_whole}
-use borrow.Author.Rules.{rules}
 use Rattle.octets.proofs.MaybeIpv6.of.Goals as goal
 
 pub returns-then-bs-ne16 : goal.returns-then-bs-ne16

@@ -2,7 +2,6 @@
 use native.Mathlib.Omega.{arith}
 use Rattle.octets.specs.Octets.{u32_of}
 use Rattle.octets.proofs.Laws.{number_fits, number_is}
-use borrow.Author.Rules.{rules}
 use borrow.Author.Tests.{not-true, not-false}
 use Rattle.octets.proofs.MaybeU32.of.Goals as goal
 

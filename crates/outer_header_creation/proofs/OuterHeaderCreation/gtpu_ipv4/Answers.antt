@@ -1,7 +1,6 @@
 -- `outer_header_creation::OuterHeaderCreation::gtpu_ipv4` meets its contract: part by part.
 use mathlib.Core.Path.{refl}
 use Rattle.outer_header_creation.proofs.Laws.{of_parts}
-use borrow.Author.Rules.{rules}
 use Rattle.outer_header_creation.proofs.OuterHeaderCreation.gtpu_ipv4.Goals as goal
 
 pub returns : goal.returns

@@ -5,7 +5,6 @@ use Rattle.outer_header_creation.specs.declared.SentFields.{SentFields}
 use Rattle.outer_header_creation.specs.declared.OuterHeaderCreation.{OuterHeaderCreation}
 use Rattle.outer_header_creation.specs.OuterHeaderCreation.{asked}
 use Rattle.outer_header_creation.specs.Steps.{sends}
-use borrow.Author.Rules.{rules}
 use Rattle.outer_header_creation.proofs.OuterHeaderCreation.sends.Goals as goal
 
 each : (r : OuterHeaderCreation) (a : SentFields) (v4 v6 c g : Bool)

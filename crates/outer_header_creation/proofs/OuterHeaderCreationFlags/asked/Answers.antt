@@ -2,7 +2,6 @@
 use mathlib.Core.Path.{◌≡◌}
 use mathlib.Core.Bool.{Bool, ◌||◌}
 use Rattle.outer_header_creation.specs.OuterHeaderCreation.{Flags, asked}
-use borrow.Author.Rules.{rules}
 use Rattle.outer_header_creation.proofs.OuterHeaderCreationFlags.asked.Goals as goal
 
 each : (f : Flags) (t x4 v4 x6 v6 p : Bool)

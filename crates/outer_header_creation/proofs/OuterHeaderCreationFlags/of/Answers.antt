@@ -4,7 +4,6 @@ use mathlib.Core.Path.{◌≡◌}
 use mathlib.Core.Bool.{Bool}
 use Rattle.octets.specs.Octets.{bit}
 use Rattle.outer_header_creation.specs.OuterHeaderCreation.{flags_of}
-use borrow.Author.Rules.{rules}
 use Rattle.outer_header_creation.proofs.OuterHeaderCreationFlags.of.Goals as goal
 
 eight : (b : ℕ) (f0 f1 f2 f3 f4 f5 f6 f7 : Bool)

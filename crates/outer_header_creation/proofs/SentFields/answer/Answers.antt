@@ -1,7 +1,7 @@
 -- `outer_header_creation::SentFields::answer` meets its contract: at each return, the tests that led there.
 use Prim.Native.Nat.{ℕ, ◌≤◌, ◌<◌}
 use native.Mathlib.Omega.{arith}
-use mathlib.Core.Path.{◌≡◌, refl}
+use mathlib.Core.Path.{◌≡◌}
 use lib.Dec.{leb}
 use borrow.Author.Tests.{le-leb, lt-leb}
 use Rattle.answer.specs.declared.Answer.{Answer}
@@ -12,7 +12,6 @@ use Rattle.outer_header_creation.specs.declared.SentFields.{SentFields}
 use Rattle.outer_header_creation.specs.declared.FieldEnds.{FieldEnds}
 use Rattle.outer_header_creation.specs.OuterHeaderCreation.{fields_of}
 use Rattle.outer_header_creation.specs.Steps.{ends_of, Rising, answer_of}
-use borrow.Author.Rules.{rules}
 use Rattle.outer_header_creation.proofs.SentFields.answer.Goals as goal
 
 -- the walk, by the ends

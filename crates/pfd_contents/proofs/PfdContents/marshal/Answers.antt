@@ -1,7 +1,6 @@
 -- `pfd_contents::PfdContents::marshal` meets its contract: by the lent slice, the fields, the length, and the room.
 use Rattle.octets.proofs.Laws.{bytes_each}
 use Rattle.pfd_contents.proofs.Answers.{long, bad, too_wide, no_room, done}
-use borrow.Author.Rules.{rules}
 use Rattle.pfd_contents.proofs.PfdContents.marshal.Goals as goal
 
 pub returns-then-n-gt65535 : goal.returns-then-n-gt65535

@@ -1,6 +1,5 @@
 -- `pfd_contents::PfdContents::unmarshal` meets its contract: by the length, then by the fields.
 use Rattle.pfd_contents.proofs.Returns.{too_long, too_short, enough}
-use borrow.Author.Rules.{rules}
 use Rattle.pfd_contents.proofs.PfdContents.unmarshal.Goals as goal
 
 pub returns-then-n-gt65535 : goal.returns-then-n-gt65535

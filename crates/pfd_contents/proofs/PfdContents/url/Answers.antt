@@ -3,7 +3,6 @@ use Rattle.text_fields.specs.Fields.{text_of}
 use Rattle.pfd_contents.specs.Builder.{with_url}
 use Rattle.pfd_contents.specs.declared.build.PfdContentsBuilder.{PfdContentsBuilder}
 use Rattle.pfd_contents.proofs.Building.{set_one}
-use borrow.Author.Rules.{rules}
 use Rattle.pfd_contents.proofs.PfdContents.url.Goals as goal
 
 pub returns : goal.returns

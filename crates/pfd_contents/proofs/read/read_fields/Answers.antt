@@ -1,7 +1,6 @@
 -- `pfd_contents::read::read_fields` meets its contract: the row of the eight steps, and how the walk ended.
 use mathlib.Core.Path.{◌∙◌}
 use Rattle.pfd_contents.proofs.Returns.{Walked, walked, all_taken, stopped}
-use borrow.Author.Rules.{rules}
 use Rattle.pfd_contents.proofs.read.read_fields.Goals as goal
 
 pub returns-in-At : goal.returns-in-At

@@ -1,6 +1,5 @@
 -- `pfd_contents::write::list_width` meets its contract.
 use Rattle.pfd_contents.proofs.Written.{list_width, list_small}
-use borrow.Author.Rules.{rules}
 use Rattle.pfd_contents.proofs.write.list_width.Goals as goal
 
 pub returns : goal.returns

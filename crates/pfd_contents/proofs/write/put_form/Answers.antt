@@ -1,10 +1,8 @@
 -- `pfd_contents::write::put_form` meets its contract: the row of the stores.
-use native.Mathlib.Omega.{arith}
 use mathlib.Core.Path.{ap, ◌∙◌}
 use lib.ListN.{length}
 use Rattle.octets.proofs.Laws.{length_put}
 use Rattle.pfd_contents.proofs.Written.{all_put}
-use borrow.Author.Rules.{rules}
 use Rattle.pfd_contents.proofs.write.put_form.Goals as goal
 
 pub shape_of-out : goal.shape_of-out

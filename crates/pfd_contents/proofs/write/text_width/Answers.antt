@@ -1,7 +1,6 @@
 -- `pfd_contents::write::text_width` meets its contract: by whether the text is there.
 use native.Mathlib.Omega.{arith}
 use Rattle.pfd_contents.proofs.Written.{none_width, text_width, text_small}
-use borrow.Author.Rules.{rules}
 use Rattle.pfd_contents.proofs.write.text_width.Goals as goal
 
 pub returns-then-not-given : goal.returns-then-not-given

@@ -1,7 +1,6 @@
 -- `text_fields::Fault::answer` meets its contract: case by case.
 use mathlib.Core.Path.{sym, ap}
 use Rattle.text_fields.specs.Fields.{answer_of}
-use borrow.Author.Rules.{rules}
 use Rattle.text_fields.proofs.Fault.answer.Goals as goal
 
 pub returns-in-Past : goal.returns-in-Past

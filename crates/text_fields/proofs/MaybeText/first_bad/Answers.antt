@@ -2,7 +2,6 @@
 use Rattle.text_fields.proofs.Runs.{maybe_not, maybe_good}
 use Rattle.text_fields.proofs.Stores.{first_bad_before_law, first_bad_good_law, first_bad_bad_law}
 use mathlib.Core.Path.{refl}
-use borrow.Author.Rules.{rules}
 use Rattle.text_fields.proofs.MaybeText.first_bad.Goals as goal
 
 pub returns-then-before-ne0 : goal.returns-then-before-ne0

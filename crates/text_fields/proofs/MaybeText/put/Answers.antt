@@ -1,7 +1,6 @@
 -- `text_fields::MaybeText::put` meets its contract: by whether the text is there, then by whether there is room; two puts are one.
 use native.Mathlib.Omega.{arith}
 use Rattle.text_fields.proofs.Stores.{none_put, text_not, text_put}
-use borrow.Author.Rules.{rules}
 use Rattle.text_fields.proofs.MaybeText.put.Goals as goal
 
 pub returns-then-not-given : goal.returns-then-not-given

@@ -2,7 +2,6 @@
 use native.Mathlib.Omega.{arith}
 use Rattle.text_fields.proofs.Runs.{whole_end}
 use Rattle.text_fields.proofs.Reading.{text_after, text_off, text_on}
-use borrow.Author.Rules.{rules}
 use Rattle.text_fields.proofs.MaybeText.read.Goals as goal
 
 pub returns-then-not-bit : goal.returns-then-not-bit

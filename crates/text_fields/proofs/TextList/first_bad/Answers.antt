@@ -1,6 +1,5 @@
 -- `text_fields::TextList::first_bad` meets its contract: by what was found before, then by the list.
 use Rattle.text_fields.proofs.Stores.{first_bad_before_law, first_bad_good_law, first_bad_bad_law}
-use borrow.Author.Rules.{rules}
 use Rattle.text_fields.proofs.TextList.first_bad.Goals as goal
 
 pub returns-then-before-ne0 : goal.returns-then-before-ne0

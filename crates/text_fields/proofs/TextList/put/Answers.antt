@@ -1,7 +1,6 @@
 -- `text_fields::TextList::put` meets its contract: by whether there are bytes, then by whether there is room.
 use native.Mathlib.Omega.{arith}
 use Rattle.text_fields.proofs.Stores.{list_none, list_not, list_put}
-use borrow.Author.Rules.{rules}
 use Rattle.text_fields.proofs.TextList.put.Goals as goal
 
 pub returns-then-run-eq0 : goal.returns-then-run-eq0

@@ -3,7 +3,6 @@ use native.Mathlib.Omega.{arith}
 use mathlib.Core.Path.{sym, ◌∙◌}
 use Rattle.text_fields.proofs.Runs.{grows}
 use Rattle.text_fields.proofs.Reading.{list_after, list_off, list_on}
-use borrow.Author.Rules.{rules}
 use Rattle.text_fields.proofs.TextList.read.Goals as goal
 
 pub returns-then-not-bit : goal.returns-then-not-bit

@@ -1,7 +1,6 @@
 -- `text_fields::TextList::with_entry` meets its contract: by the lent slice, then by the tests joined, then by whether the entry is the first.
 use native.Mathlib.Omega.{arith}
 use Rattle.text_fields.proofs.Adding.{add_long, add_none, add_onward, add-first, add-behind, add-place, add-count}
-use borrow.Author.Rules.{rules}
 use Rattle.text_fields.proofs.TextList.with_entry.Goals as goal
 
 pub returns-then-n-gt65535 : goal.returns-then-n-gt65535

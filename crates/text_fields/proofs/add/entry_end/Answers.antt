@@ -2,7 +2,6 @@
 use native.Mathlib.Omega.{arith}
 use Rattle.text_fields.proofs.Runs.{whole_end}
 use Rattle.text_fields.proofs.Adding.{entry_is}
-use borrow.Author.Rules.{rules}
 use Rattle.text_fields.proofs.add.entry_end.Goals as goal
 
 pub overflow_add-result : goal.overflow_add-result

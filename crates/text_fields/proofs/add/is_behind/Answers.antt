@@ -1,6 +1,5 @@
 -- `text_fields::add::is_behind` meets its contract: by whether the list is empty, then by its run.
 use Rattle.text_fields.proofs.Adding.{behind_none, before_run, behind_run}
-use borrow.Author.Rules.{rules}
 use Rattle.text_fields.proofs.add.is_behind.Goals as goal
 
 pub returns-then-is_empty : goal.returns-then-is_empty

@@ -1,8 +1,8 @@
 -- `text_fields::fields::entries_at` meets its contract. The invariant: what is left to take from `next` on comes to what was to be taken from `at` on.
 use borrow.Author.Rules.{rules}
 use native.Mathlib.Omega.{arith}
-use Prim.Native.Nat.{ℕ, ◌-◌, ◌≤◌}
-use mathlib.Core.Path.{◌≡◌, ap}
+use Prim.Native.Nat.{ℕ}
+use mathlib.Core.Path.{ap}
 use Rattle.text_fields.specs.Fields.{entries}
 use Rattle.text_fields.proofs.Runs.{whole_end, stop, go_on, fail, full}
 use Rattle.text_fields.proofs.fields.entries_at.Goals as goal

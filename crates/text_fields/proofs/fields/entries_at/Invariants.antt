@@ -1,9 +1,6 @@
-use borrow.Author.Rules.{rules}
-use native.Mathlib.Omega.{arith}
-use Prim.Native.Nat.{ℕ, ◌-◌, ◌≤◌}
-use mathlib.Core.Path.{◌≡◌, ap}
+use Prim.Native.Nat.{◌-◌, ◌≤◌}
+use mathlib.Core.Path.{◌≡◌}
 use Rattle.text_fields.specs.Fields.{entries}
-use Rattle.text_fields.proofs.Runs.{whole_end, stop, go_on, fail, full}
 use Rattle.text_fields.proofs.fields.entries_at.Given as goal
 
 abbrev pub invariant-loop-count : goal.invariant-loop-count

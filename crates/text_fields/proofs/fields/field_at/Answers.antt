@@ -2,7 +2,6 @@
 use mathlib.Core.Path.{refl}
 use native.Mathlib.Omega.{arith}
 use Rattle.text_fields.proofs.Runs.{length_is, length_small, absent, past, garbled, whole_there}
-use borrow.Author.Rules.{rules}
 use Rattle.text_fields.proofs.fields.field_at.Goals as goal
 
 pub returns-then-n-lt2 : goal.returns-then-n-lt2

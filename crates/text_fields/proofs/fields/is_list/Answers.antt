@@ -1,7 +1,7 @@
 -- `text_fields::fields::is_list` meets its contract: by whether the list is empty, then field by field. The invariant is that of `entries_at`.
 use native.Mathlib.Omega.{arith}
-use Prim.Native.Nat.{ℕ, ◌-◌, ◌≤◌}
-use mathlib.Core.Path.{◌≡◌, ap, sym, refl}
+use Prim.Native.Nat.{ℕ}
+use mathlib.Core.Path.{ap, sym, refl}
 use Rattle.text_fields.specs.Fields.{entries}
 use Rattle.text_fields.proofs.Runs.{whole_end, stop, go_on, fail, full, grows, list_empty, list_run, list_short, list_broken}
 use borrow.Author.Rules.{rules}

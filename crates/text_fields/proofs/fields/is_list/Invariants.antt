@@ -1,9 +1,6 @@
-use native.Mathlib.Omega.{arith}
-use Prim.Native.Nat.{ℕ, ◌-◌, ◌≤◌}
-use mathlib.Core.Path.{◌≡◌, ap, sym, refl}
+use Prim.Native.Nat.{◌-◌, ◌≤◌}
+use mathlib.Core.Path.{◌≡◌}
 use Rattle.text_fields.specs.Fields.{entries}
-use Rattle.text_fields.proofs.Runs.{whole_end, stop, go_on, fail, full, grows, list_empty, list_run, list_short, list_broken}
-use borrow.Author.Rules.{rules}
 use Rattle.text_fields.proofs.fields.is_list.Given as goal
 
 abbrev pub invariant-loop-k : goal.invariant-loop-k

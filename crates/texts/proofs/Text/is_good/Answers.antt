@@ -5,7 +5,6 @@ use native.Mathlib.Omega.{arith}
 use lib.ListN.{length}
 use borrow.Author.Tests.{le-leb, lt-leb}
 use Rattle.texts.specs.Texts.{is_text}
-use borrow.Author.Rules.{rules}
 use Rattle.texts.proofs.Text.is_good.Goals as goal
 
 pub returns-then-texts-place : goal.returns-then-texts-place

@@ -1,5 +1,4 @@
 -- `ue_ip_address::UeIpAddress::choose` meets its contract: a new record without addresses, and the two choices stored.
-use borrow.Author.Rules.{rules}
 use Rattle.octets.specs.Octets.{ipv4_of, ipv6_of}
 use Rattle.ue_ip_address.specs.UeIpAddress.{made, choosing}
 use Rattle.ue_ip_address.proofs.UeIpAddress.choose.Goals as goal

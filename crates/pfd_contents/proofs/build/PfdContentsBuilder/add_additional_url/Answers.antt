@@ -1,7 +1,6 @@
 -- `pfd_contents::PfdContentsBuilder::add_additional_url` meets its contract: its list, with-entry.
 use Rattle.pfd_contents.specs.Builder.{with_urls}
 use Rattle.pfd_contents.proofs.Building.{add_to}
-use borrow.Author.Rules.{rules}
 use Rattle.pfd_contents.proofs.build.PfdContentsBuilder.add_additional_url.Goals as goal
 
 pub returns : goal.returns

@@ -1,6 +1,5 @@
 -- `pfd_contents::PfdContentsBuilder::build` meets its contract: by the lent slice, the fields, and whether there is any.
 use Rattle.pfd_contents.proofs.Building.{build_long, build_bad, build_none, build_done}
-use borrow.Author.Rules.{rules}
 use Rattle.pfd_contents.proofs.build.PfdContentsBuilder.build.Goals as goal
 
 pub returns-then-n-gt65535 : goal.returns-then-n-gt65535
