@@ -10,8 +10,11 @@ pub fn copy(src: &[u8], dst: &mut [u8])
     ensures len { length dst.new ≡ length dst.old }
     ensures after { dst.new ≡ take (length src.now) src.now ++ drop (length src.now) dst.old }
 {
-    let n = src.len();
-    dst[..n].copy_from_slice(src);
+    let mut i = 0;
+    while i < src.len() {
+        dst[i] = src[i];
+        i += 1;
+    }
 }
 
 // The place of the first such byte from a place on and before another, and that other where there is none.
