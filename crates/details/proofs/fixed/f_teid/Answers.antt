@@ -1,7 +1,6 @@
 -- `details::fixed::f_teid` meets its contract: value by value.
 use mathlib.Core.Path.{refl}
 use Rattle.details.proofs.Laws.{also}
-use borrow.Author.Rules.{rules}
 use Rattle.details.proofs.fixed.f_teid.Goals as goal
 
 pub returns : goal.returns

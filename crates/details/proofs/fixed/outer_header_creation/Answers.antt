@@ -1,7 +1,6 @@
 -- `details::fixed::outer_header_creation` meets its contract: value by value.
 use mathlib.Core.Path.{refl}
 use Rattle.details.proofs.Laws.{also}
-use borrow.Author.Rules.{rules}
 use Rattle.details.proofs.fixed.outer_header_creation.Goals as goal
 
 pub returns : goal.returns

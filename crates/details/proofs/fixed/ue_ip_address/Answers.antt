@@ -1,7 +1,6 @@
 -- `details::fixed::ue_ip_address` meets its contract: value by value.
 use mathlib.Core.Path.{refl}
 use Rattle.details.proofs.Laws.{also}
-use borrow.Author.Rules.{rules}
 use Rattle.details.proofs.fixed.ue_ip_address.Goals as goal
 
 pub returns : goal.returns

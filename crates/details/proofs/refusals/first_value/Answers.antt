@@ -7,7 +7,6 @@ use lib.Dec.{eqb}
 use Rattle.octets.specs.Octets.{pick}
 use Rattle.rows.specs.Values.{count_value, hex_value}
 use Rattle.details.specs.Refusals.{first_value}
-use borrow.Author.Rules.{rules}
 use Rattle.details.proofs.refusals.first_value.Goals as goal
 
 first : (number x : ℕ) (v : List ℕ) (e : Bool) → e ≡ (eqb number 2 || eqb number 3) → e ≡ true → v ≡ hex_value 1 0 (x % 256) → v ≡ first_value number x

@@ -1,7 +1,6 @@
 -- `details::refusals::unread` meets its contract: value by value.
 use mathlib.Core.Path.{refl}
 use Rattle.details.proofs.Laws.{also}
-use borrow.Author.Rules.{rules}
 use Rattle.details.proofs.refusals.unread.Goals as goal
 
 pub returns : goal.returns

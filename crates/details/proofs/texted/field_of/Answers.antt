@@ -1,5 +1,4 @@
 -- `details::texted::field_of` meets its contract: by the type.
-use borrow.Author.Rules.{rules}
 use Rattle.details.proofs.texted.field_of.Goals as goal
 
 pub returns-in-Ipv4 : goal.returns-in-Ipv4

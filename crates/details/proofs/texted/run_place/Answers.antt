@@ -1,5 +1,4 @@
 -- `details::texted::run_place` meets its contract: a number behind a sign, where it is shown.
-use borrow.Author.Rules.{rules}
 use Rattle.details.proofs.texted.run_place.Goals as goal
 
 pub returns : goal.returns
