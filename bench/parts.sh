@@ -109,7 +109,7 @@ toolchain() {
     echo "$(dirname "$(dirname "$(readlink -f "$rt")")")/toolchain"
 }
 our_archive() {
-    (cd "$top/crates/yerondatt" && rt lib)
+    (cd "$top/crates/yerondatt" && rt lib --cpu x86-64)
 }
 # The crates in another folder, where further ones are added for a measurement. What was proved here isn't copied: rt begins with
 # what it kept of the same crates.

@@ -20,7 +20,7 @@ fn main() {
     println!("cargo:rerun-if-changed={}", archive.display());
     if !archive.is_file() {
         stop(&format!(
-            "{} is missing. `rt lib`, run in crates/yerondatt, makes it; where it stands elsewhere, name its folder in {FOLDER}",
+            "{} is missing. `rt lib --cpu x86-64`, run in crates/yerondatt, makes it; where it stands elsewhere, name its folder in {FOLDER}",
             archive.display()
         ));
     }

@@ -1,4 +1,5 @@
-/* An F-SEID with a spare bit set and bytes behind it. From the repository's top, once `rt lib` has run in crates/yerondatt:
+/* An F-SEID with a spare bit set and bytes behind it. From the repository's top, once `rt lib --cpu x86-64` has run in
+ * crates/yerondatt:
  *     cc -Iinclude examples/c/spare_bit.c crates/yerondatt/out/libyerondatt.a -o crates/yerondatt/out/spare_bit
  *     crates/yerondatt/out/spare_bit */
 #include "yerondatt.h"
