@@ -1,5 +1,4 @@
 use Prim.Native.Nat.{◌≤◌, ◌-◌}
-use borrow.Author.Rules.{rules}
 use Rattle.compose.proofs.pfd_calls.to_starts.Given as goal
 
 abbrev pub invariant-loop-i : goal.invariant-loop-i
