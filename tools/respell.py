@@ -50,7 +50,7 @@ def declared(text):
             inside = True
         elif line and not line.startswith(" "):
             inside = False
-        found = re.match(r"(?:(?:  )?|(?:    |      )(?=pub ))" + MARKS + r"(\S+)(?: (?:\{[^}]*\}|\([^)]*\)))* :", line)
+        found = re.match(r" *" + MARKS + r"(\S+)(?: (?:\{[^}]*\}|\([^)]*\)))* :", line)
         if found and is_old(found.group(1)):
             (fields if inside and line.startswith("  ") else words).add(found.group(1))
     return words, fields

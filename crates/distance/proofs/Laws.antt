@@ -43,11 +43,11 @@ module _ (from to : ℕ) (g : from ≤ 16777215) (h : to ≤ 16777215) where
   done d e = rw (le-leb from 16777215 g, le-leb to 16777215 h, e)
 
   module _ (r : ℕ) (fits : r < 4294967296) (wraps : (r + from) % 4294967296 ≡ to) where
-    is-forward : r % 16777216 ≡ forward from to
-    is-forward = omega arith
+    is_forward : r % 16777216 ≡ forward from to
+    is_forward = omega arith
 
     pub done_near : r % 16777216 < 8388608 → record { answer = Done; value = to_z w32 (r % 16777216) } ≡ distance from to
-    done_near k = done _ (steps (r % 16777216) (omega arith) ∙ sym (near (r % 16777216) k) ∙ ap (λ (f : ℕ). signed (ltb f 8388608) f) is-forward)
+    done_near k = done _ (steps (r % 16777216) (omega arith) ∙ sym (near (r % 16777216) k) ∙ ap (λ (f : ℕ). signed (ltb f 8388608) f) is_forward)
 
     pub done_far : 8388608 ≤ r % 16777216 → record { answer = Done; value = to_z w32 (of_z w32 (to_z w32 (r % 16777216) -ℤ pos 16777216)) } ≡ distance from to
     done_far k =
@@ -56,7 +56,7 @@ module _ (from to : ℕ) (g : from ≤ 16777215) (h : to ≤ 16777215) where
         ∙ ap (λ (z : ℤ). z -ℤ pos 16777216) (steps (r % 16777216) (omega arith))
         ∙ back (r % 16777216) (omega arith)
         ∙ sym (far (r % 16777216) k (omega arith))
-        ∙ ap (λ (f : ℕ). signed (ltb f 8388608) f) is-forward)
+        ∙ ap (λ (f : ℕ). signed (ltb f 8388608) f) is_forward)
 
 -- ---- what the distance is worth
 in_range : (d : ℤ) → mag d ≤ 8388607 → InRange d

@@ -136,10 +136,10 @@ abbrev pub Ends : List ℕ → List ℕ → List ℕ → ℕ → Type 0
 Ends text d₀ d i = (i ≡ length (pairs (length d₀) text)) × ((d ≡ put d₀ 0 (pairs (length d₀) text)) × (i ≤ length d₀))
 
 pub parsed_none : (text d : List ℕ) → Parsed text d d 0
-parsed_none text d = record { long = refl; rest = refl; known = ap (λ (k : ℕ). pairs k text) (sub-zero (length d)) }
+parsed_none text d = record { long = refl; rest = refl; known = ap (λ (k : ℕ). pairs k text) (sub_zero (length d)) }
   where
-    sub-zero : (n : ℕ) → n ≡ n - 0
-    sub-zero n = omega arith
+    sub_zero : (n : ℕ) → n ≡ n - 0
+    sub_zero n = omega arith
 
 module _ (text d₀ d : List ℕ) (i : ℕ) (p : Parsed text d₀ d i) where
   -- no pair is to come

@@ -48,7 +48,7 @@ pub fn parse(text: &[u8], out: &mut [u8]) -> usize
     i
 }
 
-// Puts bytes at a place, in upper_case hex.
+// Puts bytes at a place, in upper-case hex.
 pub fn put_hex(out: &mut [u8], at: usize, bs: &[u8])
     ensures { out.new ≡ put out.old at (spelled bs.now) }
 {

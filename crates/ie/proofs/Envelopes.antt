@@ -43,16 +43,16 @@ module _ (zs s : List ℕ) where
     zero_length h = rw (le-leb _ _ head, may, not-true m h)
 
     module _ (ok : not m ≡ false) {v : Bool} (d : v ≡ is_vendor t) where
-      v-is : is_vendor (type_of s) ≡ v
-      v-is = sym (d ∙ ap is_vendor a)
+      v_is : is_vendor (type_of s) ≡ v
+      v_is = sym (d ∙ ap is_vendor a)
 
       pub by_vendor : v ≡ true → {r : Envelope} → r ≡ vendor_tests (length s) n → r ≡ envelope zs s
       unfolding envelope if_set
-      by_vendor e q = rw (le-leb _ _ head, may, not-false m ok, v-is, e, ← b) q
+      by_vendor e q = rw (le-leb _ _ head, may, not-false m ok, v_is, e, ← b) q
 
       pub by_other : v ≡ false → {r : Envelope} → r ≡ payload_test (length s) n → r ≡ envelope zs s
       unfolding envelope if_set
-      by_other e q = rw (le-leb _ _ head, may, not-false m ok, v-is, e, le-leb _ _ head, ← b, le-leb 0 n (omega arith)) q
+      by_other e q = rw (le-leb _ _ head, may, not-false m ok, v_is, e, le-leb _ _ head, ← b, le-leb 0 n (omega arith)) q
 
 -- the last tests
 module _ (n m : ℕ) where
@@ -136,24 +136,24 @@ module _ (s : List ℕ) (at : ℕ) (w : IsWhole (drop at s)) where
   head_there = omega (arith, w.0, length-drop at s)
 
   module _ {t n : ℕ} (a : t ≡ pair_at s at) (b : n ≡ pair_at s (at + 2)) {v : Bool} (d : v ≡ is_vendor t) where
-    v-at : is_vendor (type_of (drop at s)) ≡ v
-    v-at = ap is_vendor (type_drop s at ∙ sym a) ∙ sym d
+    v_at : is_vendor (type_of (drop at s)) ≡ v
+    v_at = ap is_vendor (type_drop s at ∙ sym a) ∙ sym d
 
     module _ (e : v ≡ true) where
-      two-more : extra (type_of (drop at s)) ≡ 2
+      two_more : extra (type_of (drop at s)) ≡ 2
       unfolding if_set
-      two-more = rw (v-at, e)
+      two_more = rw (v_at, e)
 
       pub number_there : at + 4 + 2 ≤ length s
-      number_there = omega (arith, w.0, length-drop at s, two-more)
+      number_there = omega (arith, w.0, length-drop at s, two_more)
 
       pub counts_it : 2 ≤ n
-      counts_it = omega (arith, w.1, pair_drop s at 2, two-more, b)
+      counts_it = omega (arith, w.1, pair_drop s at 2, two_more, b)
 
       pub vendor_record : {x : ℕ} → x ≡ pair_at s (at + 4) → record { raw_type = t; enterprise_id = x; place = 6; len = n - 2 } ≡ record_of (drop at s)
       unfolding record_of if_set
-      vendor_record q = rw (v-at, e, type_drop s at, pair_drop s at 2, pair_drop s at 4, ← a, ← b, ← q)
+      vendor_record q = rw (v_at, e, type_drop s at, pair_drop s at 2, pair_drop s at 4, ← a, ← b, ← q)
 
     pub other_record : v ≡ false → record { raw_type = t; enterprise_id = 65536; place = 4; len = n } ≡ record_of (drop at s)
     unfolding record_of if_set
-    other_record e = let z : n - 0 ≡ n = omega arith in rw (v-at, e, type_drop s at, pair_drop s at 2, ← a, ← b, z)
+    other_record e = let z : n - 0 ≡ n = omega arith in rw (v_at, e, type_drop s at, pair_drop s at 2, ← a, ← b, z)

@@ -29,23 +29,23 @@ module _ (zs : List ℕ) (at : ℕ) (s : List ℕ) where
     unfolding read
     is_found = rw (le-leb _ _ small)
 
-    next-by : (o : Envelope) → o ≡ envelope zs s → (found s o).answer ≡ Done
+    next_by : (o : Envelope) → o ≡ envelope zs s → (found s o).answer ≡ Done
         → on_envelope at s o (λ end. ies zs (at + end) (drop end s)) ≡ before (row_of at (found s o).«record») (ies zs (at + (found s o).used) (drop (found s o).used s))
     unfolding found refused
-    next-by (Whole end) e q = refl
-    next-by (Refused a) e q = absurd (not_done zs s e refl q)
+    next_by (Whole end) e q = refl
+    next_by (Refused a) e q = absurd (not_done zs s e refl q)
 
-    stop-by : (o : Envelope) → ((found s o).answer ≡ Done → ⊥) → on_envelope at s o (λ end. ies zs (at + end) (drop end s)) ≡ guilty at (found s o).answer
+    stop_by : (o : Envelope) → ((found s o).answer ≡ Done → ⊥) → on_envelope at s o (λ end. ies zs (at + end) (drop end s)) ≡ guilty at (found s o).answer
     unfolding found refused
-    stop-by (Whole end) n = absurd (n refl)
-    stop-by (Refused a) n = refl
+    stop_by (Whole end) n = absurd (n refl)
+    stop_by (Refused a) n = refl
 
   pub one_after_another : OneAfterAnother zs at s
   one_after_another =
       record {
         none = λ e. none_left zs at s (omega (arith, e));
-        next = λ h k q. turn zs at s h ∙ rw (is_found h k) (next-by h k (envelope zs s) refl (rw (is_found h k) at q));
-        stop = λ h k n. turn zs at s h ∙ rw (is_found h k) (stop-by h k (envelope zs s) (rw (is_found h k) at n));
+        next = λ h k q. turn zs at s h ∙ rw (is_found h k) (next_by h k (envelope zs s) refl (rw (is_found h k) at q));
+        stop = λ h k n. turn zs at s h ∙ rw (is_found h k) (stop_by h k (envelope zs s) (rw (is_found h k) at n));
       }
 
 -- along the IEs of some bytes: a fact of every end, every guilty IE, every step

@@ -85,16 +85,16 @@ module _ (zs s : List ℕ) (at : ℕ) (table : Table) (i : ℕ) {last : Table} (
     has_room = omega (arith, counts, left.room)
 
     module _ {ie : Ie} (e : ie ≡ record_of (drop at s)) where
-      ends-here : ie.place + ie.len ≡ here.0
-      ends-here = ap (λ (x : Ie). x.place + x.len) e ∙ record_ends (drop at s) is_whole ∙ (inside zs s at lt here.1 refl).1
+      ends_here : ie.place + ie.len ≡ here.0
+      ends_here = ap (λ (x : Ie). x.place + x.len) e ∙ record_ends (drop at s) is_whole ∙ (inside zs s at lt here.1 refl).1
 
       pub fill_bounds : (4 ≤ ie.place + ie.len) × (at + (ie.place + ie.len) ≤ length s)
-      fill_bounds = let w = inside zs s at lt here.1 refl in (omega (arith, ends-here, w.1), omega (arith, ends-here, w.2))
+      fill_bounds = let w = inside zs s at lt here.1 refl in (omega (arith, ends_here, w.1), omega (arith, ends_here, w.2))
 
       pub fill_step : {row : List ℕ} → row ≡ row_of at ie → Left zs s (at + (ie.place + ie.len)) (set table i row) (i + 1) last
       fill_step {row} q =
           let r : row ≡ row_of at (record_of (drop at s)) = q ∙ ap (row_of at) e in
-          let z : at + here.0 ≡ at + (ie.place + ie.len) = ap (λ (n : ℕ). at + n) (sym ends-here) in
+          let z : at + here.0 ≡ at + (ie.place + ie.len) = ap (λ (n : ℕ). at + n) (sym ends_here) in
           record {
             rows = parts.0;
             are = rw z at parts.1;

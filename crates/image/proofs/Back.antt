@@ -48,12 +48,12 @@ flag_back (f ∷ fs) (suc k) = rw (shifted f (flag_byte fs)) (flag_back fs k)
     half true n = omega arith
     half false n = omega arith
 
-    one-add : (k : ℕ) → suc k ≡ 1 + k
-    one-add k = omega arith
+    one_add : (k : ℕ) → suc k ≡ 1 + k
+    one_add k = omega arith
 
     shifted : (f : Bool) (n : ℕ) → (if_set f 1 + 2 * n) / 2 ^ suc k ≡ n / 2 ^ k
     shifted f n =
-        ap (λ (j : ℕ). (if_set f 1 + 2 * n) / 2 ^ j) (one-add k)
+        ap (λ (j : ℕ). (if_set f 1 + 2 * n) / 2 ^ j) (one_add k)
         ∙ sym (shr-shr (if_set f 1 + 2 * n) 1 k)
         ∙ ap (λ (x : ℕ). x / 2 ^ k) (half f n)
 

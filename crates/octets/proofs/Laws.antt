@@ -95,10 +95,10 @@ take_first w (b ∷ s) h = refl
 
 -- a beginning of more than the first byte
 pub take_head : (w : ℕ) (s : List ℕ) → 0 < length s → take (1 + w) s ≡ get_or s 0 0 ∷ field s 1 w
-take_head w s h = ap (λ (k : ℕ). take k s) (one-add w) ∙ take_first w s h
+take_head w s h = ap (λ (k : ℕ). take k s) (one_add w) ∙ take_first w s h
   where
-    one-add : (w : ℕ) → 1 + w ≡ suc w
-    one-add w = omega arith
+    one_add : (w : ℕ) → 1 + w ≡ suc w
+    one_add w = omega arith
 
 -- two fields, one behind the other
 pub field_split : (at w m : ℕ) (s : List ℕ) → field s at (w + m) ≡ field s at w ++ field s (at + w) m
@@ -153,10 +153,10 @@ behind_less k n (x ∷ bs) h b =
     rw (add-suc, ← suc-add) (behind_less (suc k) (n * 256 + x) bs h' b.1)
 
 pub big_endian_less_law : (bs : List ℕ) → Bytes bs → big_endian bs < 256 ^ length bs
-big_endian_less_law bs b = rw zero-add at (behind_less 0 0 bs (omega arith) b)
+big_endian_less_law bs b = rw zero_add at (behind_less 0 0 bs (omega arith) b)
   where
-    zero-add : (n : ℕ) → 0 + n ≡ n
-    zero-add n = omega arith
+    zero_add : (n : ℕ) → 0 + n ≡ n
+    zero_add n = omega arith
 
 -- the bytes of a number made of bytes are those bytes
 bytes_more : (k n x : ℕ) → x < 256 → big_endian_bytes (suc k) (n * 256 + x) ≡ big_endian_bytes k n ++ (x ∷ [])
@@ -176,10 +176,10 @@ bytes_behind k n (x ∷ bs) b =
 
 pub bytes_number : (bs : List ℕ) → Bytes bs → big_endian_bytes (length bs) (big_endian bs) ≡ bs
 unfolding big_endian_bytes
-bytes_number bs b = ap (λ (k : ℕ). big_endian_bytes k (big_endian bs)) (zero-add (length bs)) ∙ bytes_behind 0 0 bs b
+bytes_number bs b = ap (λ (k : ℕ). big_endian_bytes k (big_endian bs)) (zero_add (length bs)) ∙ bytes_behind 0 0 bs b
   where
-    zero-add : (n : ℕ) → n ≡ 0 + n
-    zero-add n = omega arith
+    zero_add : (n : ℕ) → n ≡ 0 + n
+    zero_add n = omega arith
 
 pub bytes_field : (at w : ℕ) (s : List ℕ) → Bytes s → at + w ≤ length s → big_endian_bytes w (big_endian (field s at w)) ≡ field s at w
 bytes_field at w s b h =
@@ -640,7 +640,7 @@ module _ (d bs : List ℕ) (room : length bs ≤ length d) where
   put_start = rw at_start (take-append_seam bs (drop (0 + length bs) d))
 
   pub put_rest : drop (length bs) (put d 0 bs) ≡ drop (length bs) d
-  put_rest = rw at_start (drop-append_seam bs (drop (0 + length bs) d) ∙ ap (λ (n : ℕ). drop n d) (zero-add (length bs)))
+  put_rest = rw at_start (drop-append_seam bs (drop (0 + length bs) d) ∙ ap (λ (n : ℕ). drop n d) (zero_add (length bs)))
     where
-      zero-add : (n : ℕ) → 0 + n ≡ n
-      zero-add n = omega arith
+      zero_add : (n : ℕ) → 0 + n ≡ n
+      zero_add n = omega arith

@@ -69,14 +69,14 @@ module _ (t : List ℕ) (b : PfdContentsBuilder) where
     build_bad r h q = rw (le-leb _ _ f, ← e', ne_eqb n 0 h) q
 
     module _ (z : n ≡ 0) where
-      flags-are : x.flags ≡ flag_byte (present b)
+      flags_are : x.flags ≡ flag_byte (present b)
       unfolding built_record
-      flags-are = ap (λ (y : PfdContents). y.flags) s
+      flags_are = ap (λ (y : PfdContents). y.flags) s
 
       pub build_none : (r : PfdContentsBuilt) → x.flags ≡ 0 → r ≡ unbuilt (Unbuilt 6) → r ≡ built t b
       unfolding built build_refusal built_by ◌then◌
-      build_none r h q = rw (le-leb _ _ f, ← e', eq-eqb n 0 z, none_set (present b) (sym flags-are ∙ h)) q
+      build_none r h q = rw (le-leb _ _ f, ← e', eq-eqb n 0 z, none_set (present b) (sym flags_are ∙ h)) q
 
       pub build_done : (x.flags ≡ 0 → ⊥) → record { answer = Done; «record» = x } ≡ built t b
       unfolding built build_refusal built_by ◌then◌
-      build_done h = rw (le-leb _ _ f, ← e', eq-eqb n 0 z, one_set (present b) (λ k. h (flags-are ∙ k)), ← s)
+      build_done h = rw (le-leb _ _ f, ← e', eq-eqb n 0 z, one_set (present b) (λ k. h (flags_are ∙ k)), ← s)

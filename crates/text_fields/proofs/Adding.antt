@@ -102,21 +102,21 @@ module _ (t : List ℕ) (l : TextList) (number at : ℕ) where
       add_onward = omega (arith, entry_behind t at end e (eqb-false end 0 (not-true (eqb end 0) passed.1)))
 
       module _ (b : Bool) (c : b ≡ is_empty l) where
-        pub add-first : b ≡ true → record { answer = Done; list = run_of at end 1 } ≡ added number t l at
+        pub add_first : b ≡ true → record { answer = Done; list = run_of at end 1 } ≡ added number t l at
         unfolding added added_by
-        add-first n = rw (tested, not-false ok h, ← e, ← c, n)
+        add_first n = rw (tested, not-false ok h, ← e, ← c, n)
 
         module _ (n : b ≡ false) where
-          pub add-behind : record { answer = Done; list = run_of l.place end (l.count + 1) } ≡ added number t l at
+          pub add_behind : record { answer = Done; list = run_of l.place end (l.count + 1) } ≡ added number t l at
           unfolding added added_by
-          add-behind = rw (tested, not-false ok h, ← e, ← c, n)
+          add_behind = rw (tested, not-false ok h, ← e, ← c, n)
 
           -- the entry stands where the run ends
-          pub add-place : l.place ≤ end
+          pub add_place : l.place ≤ end
           unfolding is_behind
-          add-place =
+          add_place =
               let z : l.place + l.len ≡ at = eqb-true _ _ (rw (← c, n) at (sym d ∙ passed.2)) in
               omega (arith, add_onward)
 
-          pub add-count : l.count ≤ length t
-          add-count = few t l (sym g ∙ passed.0) (sym c ∙ n)
+          pub add_count : l.count ≤ length t
+          add_count = few t l (sym g ∙ passed.0) (sym c ∙ n)

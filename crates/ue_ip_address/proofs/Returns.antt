@@ -63,9 +63,9 @@ module _ (s : List ℕ) (f : length s ≤ 65535) (a : 1 ≤ length s) where
           wp : up ≡ if_set (bit 6 (get_or s 0 0)) 1
           wp = width_if_set_law s 6 1 p up dp ep
 
-          pub no-prefix : (r : UeIpAddressRead) → 1 + u4 + u6 + ud ≤ length s → length s < 1 + u4 + u6 + ud + up → r ≡ refused (Short 4 (1 + u4 + u6 + ud + up) (length s)) → r ≡ read s
+          pub no_prefix : (r : UeIpAddressRead) → 1 + u4 + u6 + ud ≤ length s → length s < 1 + u4 + u6 + ud + up → r ≡ refused (Short 4 (1 + u4 + u6 + ud + up) (length s)) → r ≡ read s
           unfolding read found
-          no-prefix r h g q = stop_field found layout s r f free 3 4 _ 1 _ (1 + u4 + u6 + ud) (1 + u4 + u6 + ud + up) refl (omega (arith, w4, w6, wd)) (ap (λ (u : ℕ). 1 + u4 + u6 + ud + u) wp) h g q
+          no_prefix r h g q = stop_field found layout s r f free 3 4 _ 1 _ (1 + u4 + u6 + ud) (1 + u4 + u6 + ud + up) refl (omega (arith, w4, w6, wd)) (ap (λ (u : ℕ). 1 + u4 + u6 + ud + u) wp) h g q
 
           -- the one of the last two that is cut: only one of them is sent
           pub no_byte : (r : UeIpAddressRead) (k : ℕ) → k ≡ pick d 3 4 → 1 + u4 + u6 ≤ length s → length s < 1 + u4 + u6 + ud + up → r ≡ refused (Short k (1 + u4 + u6 + ud + up) (length s)) → r ≡ read s
@@ -78,7 +78,7 @@ module _ (s : List ℕ) (f : length s ≤ 65535) (a : 1 ≤ length s) where
                   let none : up ≡ 0 = rw off at wp in
                   let same : 1 + u4 + u6 + ud + up ≡ 1 + u4 + u6 + ud = omega arith in
                   no_bits r h (omega arith) (rw (rw t at e, same) at q)
-              go false t = let none : ud ≡ 0 = rw t at ed in no-prefix r (omega arith) g (rw (rw t at e) at q)
+              go false t = let none : ud ≡ 0 = rw t at ed in no_prefix r (omega arith) g (rw (rw t at e) at q)
 
           -- with all the fields; n4, n6, nd and np are their widths as a reader states them
           pub whole : (n4 n6 nd np : ℕ) (a4 : MaybeIpv4) (a6 : MaybeIpv6) (sd c4 c6 : Bool) (bits prefix : MaybeU8)

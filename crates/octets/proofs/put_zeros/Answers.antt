@@ -9,8 +9,8 @@ use Rattle.octets.proofs.Laws.{over_nil, zeros_step, zeros_all, zeros_not}
 use Rattle.octets.proofs.put_zeros.Goals as goal
 
 -- none is left
-all-zeros : (e : ℕ) (d d' : List ℕ) (at i : ℕ) → e ≤ i → e ≤ length d → over d' i (replicate (e - i) 0) ≡ over d at (replicate (e - at) 0) → d' ≡ put d at (replicate (e - at) 0)
-all-zeros e d d' at i h r q = let none : e - i ≡ 0 = omega arith in sym (over_nil d' i) ∙ ap (λ (n : ℕ). over d' i (replicate n 0)) (sym none) ∙ q ∙ zeros_all d at e r
+all_zeros : (e : ℕ) (d d' : List ℕ) (at i : ℕ) → e ≤ i → e ≤ length d → over d' i (replicate (e - i) 0) ≡ over d at (replicate (e - at) 0) → d' ≡ put d at (replicate (e - at) 0)
+all_zeros e d d' at i h r q = let none : e - i ≡ 0 = omega arith in sym (over_nil d' i) ∙ ap (λ (n : ℕ). over d' i (replicate n 0)) (sym none) ∙ q ∙ zeros_all d at e r
 
 pub returns-then-out-end : goal.returns-then-out-end
 returns-then-out-end c = zeros_not _ _ _ c.if-out-end.true
@@ -34,4 +34,4 @@ pub shape_of-out : goal.shape_of-out
 shape_of-out c = c.loop-i.invariant.0
 
 pub returns : goal.returns
-returns c = all-zeros c.args.end _ _ _ _ (omega arith) (omega arith) c.loop-i.invariant.1
+returns c = all_zeros c.args.end _ _ _ _ (omega arith) (omega arith) c.loop-i.invariant.1

@@ -46,11 +46,11 @@ module _ (z : ℤ) (f : SFits w32 z) where
     left : negsuc 0 -ℤ to_z w32 (of_z w32 z) ≡ pos b.n
     left = ap (λ (v : ℤ). negsuc 0 -ℤ v) (to_z-of_z w32 z f ∙ b.is) ∙ from_one b.n
 
-    left-fits : SFits w32 (negsuc 0 -ℤ to_z w32 (of_z w32 z))
-    left-fits = record { sfits = rw left b.small }
+    left_fits : SFits w32 (negsuc 0 -ℤ to_z w32 (of_z w32 z))
+    left_fits = record { sfits = rw left b.small }
 
     read_back : to_z w32 (of_z w32 (negsuc 0 -ℤ to_z w32 (of_z w32 z))) ≡ pos b.n
-    read_back = to_z-of_z w32 _ left-fits ∙ left
+    read_back = to_z-of_z w32 _ left_fits ∙ left
 
   module _ (h : lt_z (to_z w32 (of_z w32 z)) (pos 0) ≡ false) where
     a : Above z
@@ -60,7 +60,7 @@ module _ (z : ℤ) (f : SFits w32 z) where
     same = to_z-of_z w32 z f ∙ a.is
 
 pub overflow_sub-result : goal.overflow_sub-result
-overflow_sub-result c = left-fits c.args.x c.ranges.x c.if-x-lt0.true
+overflow_sub-result c = left_fits c.args.x c.ranges.x c.if-x-lt0.true
 
 pub overflow_cast-result-then-x-lt0 : goal.overflow_cast-result-then-x-lt0
 overflow_cast-result-then-x-lt0 c =

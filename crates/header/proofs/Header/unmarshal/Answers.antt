@@ -10,11 +10,11 @@ use Rattle.header.proofs.Returns.{too_long, no_head, no_first_half, no_second_ha
 use Rattle.header.proofs.Header.unmarshal.Goals as goal
 
 -- the two numbers that are narrowed fit
-length-fits : (s : List ℕ) (x : ℕ) → x < 256 ^ length (field s 2 2) → x < 65536
-length-fits s x h = number_below s 2 2 2 x (omega arith) h
+length_fits : (s : List ℕ) (x : ℕ) → x < 256 ^ length (field s 2 2) → x < 65536
+length_fits s x h = number_below s 2 2 2 x (omega arith) h
 
-sequence-fits : (s : List ℕ) (at x : ℕ) → x < 256 ^ length (field s at (at + 3 - at)) → x < 4294967296
-sequence-fits s at x h = number_below s at (at + 3 - at) 4 x (omega arith) h
+sequence_fits : (s : List ℕ) (at x : ℕ) → x < 256 ^ length (field s at (at + 3 - at)) → x < 4294967296
+sequence_fits s at x h = number_below s at (at + 3 - at) 4 x (omega arith) h
 
 pub returns-then-n-gt65535 : goal.returns-then-n-gt65535
 returns-then-n-gt65535 c = search too_long
@@ -29,10 +29,10 @@ pub returns-then-n-end16 : goal.returns-then-n-end16
 returns-then-n-end16 c = search no_second_half
 
 pub overflow_cast-result : goal.overflow_cast-result
-overflow_cast-result c = record { fits = search length-fits }
+overflow_cast-result c = record { fits = search length_fits }
 
 pub overflow_cast-result-2 : goal.overflow_cast-result-2
-overflow_cast-result-2 c = record { fits = search sequence-fits }
+overflow_cast-result-2 c = record { fits = search sequence_fits }
 
 pub returns : goal.returns
 returns c = search (whole, version_read, (c.shared_slice_known-4-1.given 0).fits)

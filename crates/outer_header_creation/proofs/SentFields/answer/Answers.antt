@@ -16,44 +16,44 @@ use Rattle.outer_header_creation.proofs.SentFields.answer.Goals as goal
 
 -- the walk, by the ends
 module _ (a : SentFields) (n : ℕ) (e : FieldEnds) (here : e ≡ ends_of a) where
-  field-ends : ℕ → ℕ → Outcome → Outcome
-  field-ends number end rest = pick (leb end n) rest (refuses (Short number end n))
+  field_ends : ℕ → ℕ → Outcome → Outcome
+  field_ends number end rest = pick (leb end n) rest (refuses (Short number end n))
 
-  walked : walk n 2 (fields_of a) ≡ field-ends 6 e.teid (field-ends 1 e.ipv4 (field-ends 2 e.ipv6 (field-ends 7 e.port (field-ends 8 e.ctag (field-ends 9 e.stag (accepts e.stag))))))
-  unfolding walk ends_of field-ends
+  walked : walk n 2 (fields_of a) ≡ field_ends 6 e.teid (field_ends 1 e.ipv4 (field_ends 2 e.ipv6 (field_ends 7 e.port (field_ends 8 e.ctag (field_ends 9 e.stag (accepts e.stag))))))
+  unfolding walk ends_of field_ends
   walked = rw here
 
   module _ (r : Answer) where
     done : Rising e → e.stag ≤ n → r ≡ Done → r ≡ answer_of (walk n 2 (fields_of a))
-    unfolding field-ends
+    unfolding field_ends
     done k h q = rw (walked, le-leb e.teid n (omega arith), le-leb e.ipv4 n (omega arith), le-leb e.ipv6 n (omega arith), le-leb e.port n (omega arith), le-leb e.ctag n (omega arith), le-leb e.stag n h) q
 
     stop6 : n < e.teid → r ≡ Short 6 e.teid n → r ≡ answer_of (walk n 2 (fields_of a))
-    unfolding field-ends
+    unfolding field_ends
     stop6 g q = rw (walked, lt-leb e.teid n g) q
 
     module _ (h6 : e.teid ≤ n) where
       stop1 : n < e.ipv4 → r ≡ Short 1 e.ipv4 n → r ≡ answer_of (walk n 2 (fields_of a))
-      unfolding field-ends
+      unfolding field_ends
       stop1 g q = rw (walked, le-leb e.teid n h6, lt-leb e.ipv4 n g) q
 
       module _ (h1 : e.ipv4 ≤ n) where
         stop2 : n < e.ipv6 → r ≡ Short 2 e.ipv6 n → r ≡ answer_of (walk n 2 (fields_of a))
-        unfolding field-ends
+        unfolding field_ends
         stop2 g q = rw (walked, le-leb e.teid n h6, le-leb e.ipv4 n h1, lt-leb e.ipv6 n g) q
 
         module _ (h2 : e.ipv6 ≤ n) where
           stop7 : n < e.port → r ≡ Short 7 e.port n → r ≡ answer_of (walk n 2 (fields_of a))
-          unfolding field-ends
+          unfolding field_ends
           stop7 g q = rw (walked, le-leb e.teid n h6, le-leb e.ipv4 n h1, le-leb e.ipv6 n h2, lt-leb e.port n g) q
 
           module _ (h7 : e.port ≤ n) where
             stop8 : n < e.ctag → r ≡ Short 8 e.ctag n → r ≡ answer_of (walk n 2 (fields_of a))
-            unfolding field-ends
+            unfolding field_ends
             stop8 g q = rw (walked, le-leb e.teid n h6, le-leb e.ipv4 n h1, le-leb e.ipv6 n h2, le-leb e.port n h7, lt-leb e.ctag n g) q
 
             stop9 : e.ctag ≤ n → n < e.stag → r ≡ Short 9 e.stag n → r ≡ answer_of (walk n 2 (fields_of a))
-            unfolding field-ends
+            unfolding field_ends
             stop9 h8 g q = rw (walked, le-leb e.teid n h6, le-leb e.ipv4 n h1, le-leb e.ipv6 n h2, le-leb e.port n h7, le-leb e.ctag n h8, lt-leb e.stag n g) q
 
 pub returns-then-ends-n : goal.returns-then-ends-n

@@ -1,7 +1,7 @@
 -- `ue_ip_address::UeIpAddress::unmarshal` meets its contract: at each return, the tests that led there and what the calls handed over.
 use native.Mathlib.Nat.{add-sub_cancel_left}
 use mathlib.Core.Path.{sym, ◌∙◌}
-use Rattle.ue_ip_address.proofs.Returns.{too_long, no_head, forbidden, free_of, no_ipv4, no_ipv6, no_bits, no-prefix, whole}
+use Rattle.ue_ip_address.proofs.Returns.{too_long, no_head, forbidden, free_of, no_ipv4, no_ipv6, no_bits, no_prefix, whole}
 use Rattle.ue_ip_address.proofs.UeIpAddress.unmarshal.Goals as goal
 
 pub returns-then-n-gt65535 : goal.returns-then-n-gt65535
@@ -23,7 +23,7 @@ pub returns-then-n-end_bits : goal.returns-then-n-end_bits
 returns-then-n-end_bits c = search (no_bits, free_of)
 
 pub returns-then-n-end : goal.returns-then-n-end
-returns-then-n-end c = search (no-prefix, free_of)
+returns-then-n-end c = search (no_prefix, free_of)
 
 pub returns : goal.returns
 returns c =
