@@ -1,4 +1,4 @@
--- `hex::decimal_len` meets its contract. The invariant: the digits passed, and those of the rest, one counted twice.
+-- `hex_text::decimal_len` meets its contract. The invariant: the digits passed, and those of the rest, one counted twice.
 use Prim.Native.Nat.{ℕ, ◌≤◌, ◌<◌}
 use native.Mathlib.Omega.{arith}
 use lib.ListN.{length}

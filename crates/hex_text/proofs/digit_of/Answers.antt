@@ -1,4 +1,4 @@
--- `hex::digit_of` meets its contract: the table's rule is a test at each entry.
+-- `hex_text::digit_of` meets its contract: the table's rule is a test at each entry.
 use Rattle.hex_text.specs.Hex.{digit}
 use Rattle.hex_text.proofs.Table.{entry}
 use borrow.Author.Rules.{rules}

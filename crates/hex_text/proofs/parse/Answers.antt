@@ -1,4 +1,4 @@
--- `hex::parse` meets its contract. The invariant: the pairs passed stand in the output, and the others are still to come.
+-- `hex_text::parse` meets its contract. The invariant: the pairs passed stand in the output, and the others are still to come.
 use Prim.Native.Nat.{◌+◌, ◌*◌}
 use native.Mathlib.Omega.{arith}
 use mathlib.Core.Path.{refl}
@@ -38,7 +38,7 @@ overflow_add-b-in-loop-i c =
 pub returns-then-b-gt255 : goal.returns-then-b-gt255
 returns-then-b-gt255 c =
     let high = looked_up _ _ c.loop-i.invariant.0 (c.shared_slice_known-in-loop-i-1.given (2 * c.loop-i.i)).fits in
-    let low = looked_up _ _ c.loop-i.invariant.0 (c.shared_slice_known-in-loop-i-2-1.given (2 * c.loop-i.i + 1)).fits in let all_of_it = parsed_bad _ _ _ c.loop-i.i c.loop-i.invariant.3 (omega arith) (omega arith) _ _ high low c.if-b-gt255.true in record { value = all_of_it.0; out_after = all_of_it.1.0; upper_bound = all_of_it.1.1 }
+    let low = looked_up _ _ c.loop-i.invariant.0 (c.shared_slice_known-in-loop-i-2-1.given (2 * c.loop-i.i + 1)).fits in let all = parsed_bad _ _ _ c.loop-i.i c.loop-i.invariant.3 (omega arith) (omega arith) _ _ high low c.if-b-gt255.true in record { value = all.0; out_after = all.1.0; upper_bound = all.1.1 }
 
 pub loop-i-preserved : goal.loop-i-preserved
 loop-i-preserved c =
@@ -47,4 +47,4 @@ loop-i-preserved c =
     (c.loop-i.invariant.0, omega arith, c.loop-i.invariant.2, parsed_more _ _ _ c.loop-i.i c.loop-i.invariant.3 (omega arith) (omega arith) _ _ high low c.if-b-gt255.false)
 
 pub returns : goal.returns
-returns c = let all_of_it = parsed_all _ _ _ c.loop-i.i c.loop-i.invariant.3 c.loop-i.invariant.1 (omega arith) in record { value = all_of_it.0; out_after = all_of_it.1.0; upper_bound = all_of_it.1.1 }
+returns c = let all = parsed_all _ _ _ c.loop-i.i c.loop-i.invariant.3 c.loop-i.invariant.1 (omega arith) in record { value = all.0; out_after = all.1.0; upper_bound = all.1.1 }

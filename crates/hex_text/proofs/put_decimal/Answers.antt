@@ -1,4 +1,4 @@
--- `hex::put_decimal` meets its contract. The invariant: what is left to write, written now, gives the same output as writing all at first.
+-- `hex_text::put_decimal` meets its contract. The invariant: what is left to write, written now, gives the same output as writing all at first.
 use native.Mathlib.Omega.{arith}
 use mathlib.Core.Path.{refl, sym, ◌∙◌}
 use lib.ListN.{length-set}

@@ -1,4 +1,4 @@
--- `hex::put_hex` meets its contract. The invariant: what is left to write, written now, gives the same output as writing all at first.
+-- `hex_text::put_hex` meets its contract. The invariant: what is left to write, written now, gives the same output as writing all at first.
 use native.Mathlib.Nat.{add-zero}
 use native.Mathlib.Omega.{arith}
 use mathlib.Core.Path.{refl, sym, ◌∙◌}
