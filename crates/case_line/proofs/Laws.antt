@@ -4,7 +4,7 @@ use native.Mathlib.Omega.{arith}
 use mathlib.Core.Path.{◌≡◌, refl, sym, ap, ◌∙◌}
 use mathlib.Core.Bool.{Bool, true, false}
 use mathlib.Core.List.{List, [], ◌∷◌, ◌++◌, append_assoc}
-use mathlib.Core.Option.{Option, none, some, bind}
+use Rattle.std.specs.Prelude.{Option, None, Some, option_and_then}
 use lib.ListN.{length, take, drop, get_or, length-append, length-take}
 use lib.Seq.{take_all}
 use lib.Dec.{leb, eqb}
@@ -76,16 +76,16 @@ hex_most m [] p h = omega arith
 hex_most m (b ∷ bs) p h = omega (arith, length_spelled (b ∷ bs))
 
 module _ (number used : ℕ) (bs : List ℕ) where
-  pub length_shown : length (shown (some (row number used bs))) ≡ length (decimal number) + 1 + (length (decimal used) + 1) + (length (hex_or_dash bs) + 1)
+  pub length_shown : length (shown (Some (row number used bs))) ≡ length (decimal number) + 1 + (length (decimal used) + 1) + (length (hex_or_dash bs) + 1)
   unfolding shown
   length_shown = simp length-append (omega arith)
 
   -- a row of 4,096 bytes at most
-  pub shown_most : number < 256 → used < 2 ^ 64 → length bs ≤ 4096 → length (shown (some (row number used bs))) ≤ 8218
+  pub shown_most : number < 256 → used < 2 ^ 64 → length bs ≤ 4096 → length (shown (Some (row number used bs))) ≤ 8218
   shown_most h g l = omega (arith, length_shown, decimal_most 2 number (omega arith), decimal_most 19 used (omega arith), hex_most 4096 bs (omega arith) l)
 
   -- its three parts, one behind the other
-  pub three_parts : decimal number ++ (0x20 ∷ []) ++ (decimal used ++ (0x20 ∷ [])) ++ (hex_or_dash bs ++ (0x0A ∷ [])) ≡ shown (some (row number used bs))
+  pub three_parts : decimal number ++ (0x20 ∷ []) ++ (decimal used ++ (0x20 ∷ [])) ++ (hex_or_dash bs ++ (0x0A ∷ [])) ≡ shown (Some (row number used bs))
   unfolding shown
   three_parts = simp append_assoc
 
@@ -93,8 +93,8 @@ module _ (number used : ℕ) (bs : List ℕ) where
 -- no write answers a length past its output
 answered_fits : (o : Option Answer) (bs : List ℕ) (m : ℕ) → (answered o bs m).len ≤ m
 unfolding answered
-answered_fits (some a) bs m = omega arith
-answered_fits none bs m = go (leb (length bs) m) refl
+answered_fits (Some a) bs m = omega arith
+answered_fits None bs m = go (leb (length bs) m) refl
   where
     go : (t : Bool) → leb (length bs) m ≡ t → (wrote t (length bs)).len ≤ m
     go true e = leb-true (length bs) m e
@@ -113,11 +113,11 @@ module _ (k : Kind) (same : (s : List ℕ) → length (k.clear s) ≡ length s) 
       → a ≡ k.reader.answer s
       → used ≡ k.reader.used s
       → v ≡ k.reader.value s
-      → (Reads k.reader s v used → refused ≡ none)
+      → (Reads k.reader s v used → refused ≡ None)
       → w ≡ answered refused (k.wire v) (length d)
       → d' ≡ stored refused d (k.wire v)
       → r ≡ redone a used w.len
-      → record { bytes_after : row_in r d' ≡ some (row_of k.reader k.wire s); len_in_bounds : r.len ≤ length d }
+      → record { bytes_after : row_in r d' ≡ Some (row_of k.reader k.wire s); len_in_bounds : r.len ≤ length d }
   unfolding row_in row_of if_set answered stored
   redo s d d' a used v refused w r b h ea eu ev able ew ed er = record {
     bytes_after = rw (er, go (eqb (number_of a) 0) refl, ea, eu, ev);
@@ -143,17 +143,17 @@ module _ (k : Kind) (same : (s : List ℕ) → length (k.clear s) ≡ length s) 
       → w ≡ written (length (k.wire (value x))) (length d)
       → d' ≡ put d 0 (k.wire (value x))
       → r ≡ redone (answer x) (used x) w.len
-      → record { bytes_after : row_in r d' ≡ some (row_of k.reader k.wire s); len_in_bounds : r.len ≤ length d }
+      → record { bytes_after : row_in r d' ≡ Some (row_of k.reader k.wire s); len_in_bounds : r.len ≤ length d }
   unfolding answered stored
   redo_fixed answer used value s d d' x y w r e ea eu ev b h ew ed er =
-      redo s d d' (answer x) (used x) (value x) none w r b h (ap answer e ∙ ea) (ap used e ∙ eu) (ap value e ∙ ev) (λ reads. refl) ew ed er
+      redo s d d' (answer x) (used x) (value x) None w r b h (ap answer e ∙ ea) (ap used e ∙ eu) (ap value e ∙ ev) (λ reads. refl) ew ed er
 
 -- a row that isn't there
-pub no_row : (r : LineRow) (bs : List ℕ) (o : Option Row) → row_in r bs ≡ o → r.known ≡ false → none ≡ o
+pub no_row : (r : LineRow) (bs : List ℕ) (o : Option Row) → row_in r bs ≡ o → r.known ≡ false → None ≡ o
 unfolding row_in
 no_row r bs o e h = rw h at e
 
-pub a_row : (r : LineRow) (bs : List ℕ) (o : Option Row) → row_in r bs ≡ o → r.known ≡ true → some (row r.number r.used (take r.len bs)) ≡ o
+pub a_row : (r : LineRow) (bs : List ℕ) (o : Option Row) → row_in r bs ≡ o → r.known ≡ true → Some (row r.number r.used (take r.len bs)) ≡ o
 unfolding row_in
 a_row r bs o e h = rw h at e
 
@@ -162,19 +162,19 @@ pub take_most : (n m : ℕ) (bs : List ℕ) → n ≤ m → length (take n bs) �
 take_most n m bs h = omega (arith, length-take n bs)
 
 -- ---- the payload of a text
-pub payload_none : (text : List ℕ) → length text ≡ 0 → payload text ≡ none
+pub payload_none : (text : List ℕ) → length text ≡ 0 → payload text ≡ None
 unfolding payload
 payload_none [] h = refl
 payload_none (c ∷ text) h = absurd (omega arith)
 
-pub payload_dash : (text : List ℕ) → length text ≡ 1 → payload text ≡ pick (eqb (get_or text 0 0) 0x2D) (some []) none
+pub payload_dash : (text : List ℕ) → length text ≡ 1 → payload text ≡ pick (eqb (get_or text 0 0) 0x2D) (Some []) None
 unfolding payload
 payload_dash [] h = absurd (omega arith)
 payload_dash (c ∷ []) h = refl
 payload_dash (c ∷ d ∷ text) h = absurd (omega arith)
 
 pub payload_pairs : (text d d' : List ℕ) (len : ℕ) → (length text ≡ 0 → ⊥) → (length text ≡ 1 → ⊥) → length d ≡ 4096 → len ≡ length (pairs (length d) text) → d' ≡ put d 0 (pairs (length d) text) → len ≤ length d
-    → payload text ≡ pick (eqb (2 * len) (length text)) (some (take len d')) none
+    → payload text ≡ pick (eqb (2 * len) (length text)) (Some (take len d')) None
 unfolding payload all_pairs
 payload_pairs [] d d' len h g l e q r = absurd (h refl)
 payload_pairs (c ∷ []) d d' len h g l e q r = absurd (g refl)
@@ -186,28 +186,28 @@ payload_pairs (x ∷ y ∷ text) d d' len h g l e q r =
     rw (got, e')
 
 -- the row of a letter and a text, by its payload
-pub good_text : (letter : ℕ) (good : Bool) (text bs : List ℕ) → payload text ≡ pick good (some bs) none → good ≡ true → bind (payload text) (row_for letter) ≡ row_for letter bs
-unfolding bind
+pub good_text : (letter : ℕ) (good : Bool) (text bs : List ℕ) → payload text ≡ pick good (Some bs) None → good ≡ true → option_and_then (row_for letter) (payload text) ≡ row_for letter bs
+unfolding option_and_then
 good_text letter good text bs e g = rw (e, g)
 
-pub bad_text : (letter : ℕ) (good : Bool) (text bs : List ℕ) → payload text ≡ pick good (some bs) none → good ≡ false → bind (payload text) (row_for letter) ≡ none
-unfolding bind
+pub bad_text : (letter : ℕ) (good : Bool) (text bs : List ℕ) → payload text ≡ pick good (Some bs) None → good ≡ false → option_and_then (row_for letter) (payload text) ≡ None
+unfolding option_and_then
 bad_text letter good text bs e g = rw (e, g)
 
 -- ---- the row of a line
-pub too_short : (line : List ℕ) → length line < 2 → line_row line ≡ none
+pub too_short : (line : List ℕ) → length line < 2 → line_row line ≡ None
 unfolding line_row
 too_short [] h = refl
 too_short (c ∷ []) h = refl
 too_short (c ∷ d ∷ line) h = absurd (omega arith)
 
-pub no_space : (line : List ℕ) → (get_or line 1 0 ≡ 0x20 → ⊥) → line_row line ≡ none
+pub no_space : (line : List ℕ) → (get_or line 1 0 ≡ 0x20 → ⊥) → line_row line ≡ None
 unfolding line_row
 no_space [] h = refl
 no_space (c ∷ []) h = refl
 no_space (c ∷ d ∷ line) h = rw (ne_eqb _ _ h)
 
-pub shaped : (line : List ℕ) → get_or line 1 0 ≡ 0x20 → line_row line ≡ bind (payload (take (length line - 2) (drop 2 line))) (row_for (get_or line 0 0))
+pub shaped : (line : List ℕ) → get_or line 1 0 ≡ 0x20 → line_row line ≡ option_and_then (payload (take (length line - 2) (drop 2 line))) (row_for (get_or line 0 0))
 unfolding line_row
 shaped [] h = absurd (omega arith)
 shaped (c ∷ []) h = absurd (omega arith)

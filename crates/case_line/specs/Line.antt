@@ -1,6 +1,6 @@
 -- What the case program prints for a line, as document 01 has it.
 use Rattle.std.specs.Prelude.{ℕ, ◌*◌, List, [], ◌∷◌, ◌++◌, length, leb, eqb}
-use Rattle.std.proofs.Math.Option.{Option, none, some, bind}
+use Rattle.std.specs.Prelude.{Option, None, Some, option_and_then}
 use Rattle.answer.specs.Paper.{number_of}
 use Rattle.octets.specs.Octets.{pick}
 use Rattle.kind.specs.Kind.{Reader}
@@ -47,29 +47,29 @@ row_p s = row_of pfd.reader pfd.wire s
 -- and their letters: U, F, S, N, O, P. No other letter has a row
 unfoldable pub row_for : ℕ → List ℕ → Option Row
 row_for letter s =
-    pick (eqb letter 0x55) (some (row_u s))
-    (pick (eqb letter 0x46) (some (row_f s))
-    (pick (eqb letter 0x53) (some (row_s s))
-    (pick (eqb letter 0x4E) (some (row_n s))
-    (pick (eqb letter 0x4F) (some (row_o s))
-    (pick (eqb letter 0x50) (some (row_p s))
-    none)))))
+    pick (eqb letter 0x55) (Some (row_u s))
+    (pick (eqb letter 0x46) (Some (row_f s))
+    (pick (eqb letter 0x53) (Some (row_s s))
+    (pick (eqb letter 0x4E) (Some (row_n s))
+    (pick (eqb letter 0x4F) (Some (row_o s))
+    (pick (eqb letter 0x50) (Some (row_p s))
+    None)))))
 
 -- digit pairs, 4,096 at most, and nothing behind them
 unfoldable pub all_pairs : List ℕ → Option (List ℕ)
-all_pairs text = pick (eqb (2 * length (pairs 4096 text)) (length text)) (some (pairs 4096 text)) none
+all_pairs text = pick (eqb (2 * length (pairs 4096 text)) (length text)) (Some (pairs 4096 text)) None
 
 -- the payload of a line's text: `-` for the empty one, else digit pairs, one at least
 unfoldable pub payload : List ℕ → Option (List ℕ)
-payload [] = none
-payload (c ∷ []) = pick (eqb c 0x2D) (some []) none
+payload [] = None
+payload (c ∷ []) = pick (eqb c 0x2D) (Some []) None
 payload (c ∷ d ∷ text) = all_pairs (c ∷ d ∷ text)
 
 -- the row of a line: kind letter, one space, text of the payload; no other line has one
 unfoldable pub line_row : List ℕ → Option Row
-line_row [] = none
-line_row (letter ∷ []) = none
-line_row (letter ∷ space ∷ text) = pick (eqb space 0x20) (bind (payload text) (row_for letter)) none
+line_row [] = None
+line_row (letter ∷ []) = None
+line_row (letter ∷ space ∷ text) = pick (eqb space 0x20) (option_and_then (row_for letter) (payload text)) None
 
 -- bytes in hex, `-` for none
 unfoldable pub hex_or_dash : List ℕ → List ℕ
@@ -78,8 +78,8 @@ hex_or_dash (b ∷ bs) = spelled (b ∷ bs)
 
 -- a row as it is printed, a space between its parts and 0A behind them; `? 0 -` where there is none
 unfoldable pub shown : Option Row → List ℕ
-shown (some row) = decimal row.number ++ (0x20 ∷ (decimal row.used ++ (0x20 ∷ (hex_or_dash row.written ++ (0x0A ∷ [])))))
-shown none = 0x3F ∷ 0x20 ∷ 0x30 ∷ 0x20 ∷ 0x2D ∷ 0x0A ∷ []
+shown (Some row) = decimal row.number ++ (0x20 ∷ (decimal row.used ++ (0x20 ∷ (hex_or_dash row.written ++ (0x0A ∷ [])))))
+shown None = 0x3F ∷ 0x20 ∷ 0x30 ∷ 0x20 ∷ 0x2D ∷ 0x0A ∷ []
 
 -- what is printed for a line, given without its 0A
 unfoldable pub printed : List ℕ → List ℕ

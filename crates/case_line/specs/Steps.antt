@@ -1,6 +1,6 @@
 -- What the steps on the way to a line's row answer: nothing here is the paper's.
 use Rattle.std.specs.Prelude.{ℕ, true, List, eqb, take}
-use Rattle.std.proofs.Math.Option.{Option, none, some}
+use Rattle.std.specs.Prelude.{Option, None, Some}
 use Rattle.answer.specs.declared.Answer.{Answer}
 use Rattle.answer.specs.Paper.{number_of}
 use Rattle.octets.specs.Octets.{pick, if_set}
@@ -9,7 +9,7 @@ use Rattle.case_line.specs.Line.{Row, row}
 
 -- the row that is meant, given the buffer that has its bytes at the start
 unfoldable pub row_in : LineRow → List ℕ → Option Row
-row_in r bytes = pick r.known (some (row r.number r.used (take r.len bytes))) none
+row_in r bytes = pick r.known (Some (row r.number r.used (take r.len bytes))) None
 
 -- the row of a payload that was read with this answer and used count, and whose record was written again in so many bytes
 abbrev pub redone : Answer → ℕ → ℕ → LineRow

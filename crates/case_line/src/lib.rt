@@ -2,7 +2,7 @@
 #![tactic(auto)]
 
 ghost use Rattle.std.specs.Prelude.{◌≡◌, ◌∷◌, [], ◌++◌, ◌+◌, ◌*◌, ◌<◌, ◌≤◌, length, take};
-ghost use Rattle.std.proofs.Math.Option.{none, some};
+ghost use Rattle.std.specs.Prelude.{None, Some};
 ghost use Rattle.octets.specs.Octets.{pick, put};
 ghost use Rattle.hex_text.specs.Hex.{decimal};
 ghost use Rattle.case_line.specs.Line.{row, row_u, row_f, row_s, row_n, row_o, row_p, row_for, payload, line_row, hex_or_dash, shown, printed, taken};
@@ -18,8 +18,8 @@ use ue_ip_address::UeIpAddress;
 
 // Puts `? 0 -`.
 fn put_other(out: &mut [u8]) -> usize
-    ensures value { result ≡ taken (length (shown none)) (length out.old) }
-    ensures out_after { out.new ≡ put out.old 0 (shown none) }
+    ensures value { result ≡ taken (length (shown None)) (length out.old) }
+    ensures out_after { out.new ≡ put out.old 0 (shown None) }
 {
     if out.len() < 6 {
         return 0;
@@ -52,8 +52,8 @@ fn put_written(out: &mut [u8], at: usize, bs: &[u8])
 
 // Puts a row.
 fn put_row(out: &mut [u8], number: u8, used: usize, bs: &[u8]) -> usize
-    ensures value { result ≡ taken (length (shown (some (row number used bs.now)))) (length out.old) }
-    ensures out_after { out.new ≡ put out.old 0 (shown (some (row number used bs.now))) }
+    ensures value { result ≡ taken (length (shown (Some (row number used bs.now)))) (length out.old) }
+    ensures out_after { out.new ≡ put out.old 0 (shown (Some (row number used bs.now))) }
 {
     if out.len() / 2 < bs.len() {
         return 0;
@@ -105,7 +105,7 @@ fn row_of(answer: Answer, used: usize, len: usize) -> LineRow
 // Reads and writes a UE IP Address.
 fn row_of_ue_ip_address(payload: &[u8], bytes: &mut [u8]) -> LineRow
     requires { length payload.now ≤ length bytes.old }
-    ensures bytes_after { row_in result bytes.new ≡ some (row_u payload.now) }
+    ensures bytes_after { row_in result bytes.new ≡ Some (row_u payload.now) }
     ensures len_in_bounds { result.len ≤ length bytes.old }
 {
     let read = UeIpAddress::unmarshal(payload);
@@ -118,7 +118,7 @@ fn row_of_ue_ip_address(payload: &[u8], bytes: &mut [u8]) -> LineRow
 // Reads and writes an F-TEID.
 fn row_of_f_teid(payload: &[u8], bytes: &mut [u8]) -> LineRow
     requires { length payload.now ≤ length bytes.old }
-    ensures bytes_after { row_in result bytes.new ≡ some (row_f payload.now) }
+    ensures bytes_after { row_in result bytes.new ≡ Some (row_f payload.now) }
     ensures len_in_bounds { result.len ≤ length bytes.old }
 {
     let read = Fteid::unmarshal(payload);
@@ -131,7 +131,7 @@ fn row_of_f_teid(payload: &[u8], bytes: &mut [u8]) -> LineRow
 // Reads and writes an F-SEID.
 fn row_of_fseid(payload: &[u8], bytes: &mut [u8]) -> LineRow
     requires { length payload.now ≤ length bytes.old }
-    ensures bytes_after { row_in result bytes.new ≡ some (row_s payload.now) }
+    ensures bytes_after { row_in result bytes.new ≡ Some (row_s payload.now) }
     ensures len_in_bounds { result.len ≤ length bytes.old }
 {
     let read = Fseid::unmarshal(payload);
@@ -144,7 +144,7 @@ fn row_of_fseid(payload: &[u8], bytes: &mut [u8]) -> LineRow
 // Reads and writes a Node ID. Its name is in the payload.
 fn row_of_node_id(payload: &[u8], bytes: &mut [u8]) -> LineRow
     requires { length payload.now ≤ length bytes.old }
-    ensures bytes_after { row_in result bytes.new ≡ some (row_n payload.now) }
+    ensures bytes_after { row_in result bytes.new ≡ Some (row_n payload.now) }
     ensures len_in_bounds { result.len ≤ length bytes.old }
 {
     let read = NodeId::unmarshal(payload);
@@ -157,7 +157,7 @@ fn row_of_node_id(payload: &[u8], bytes: &mut [u8]) -> LineRow
 // Reads and writes an Outer Header Creation.
 fn row_of_outer_header_creation(payload: &[u8], bytes: &mut [u8]) -> LineRow
     requires { length payload.now ≤ length bytes.old }
-    ensures bytes_after { row_in result bytes.new ≡ some (row_o payload.now) }
+    ensures bytes_after { row_in result bytes.new ≡ Some (row_o payload.now) }
     ensures len_in_bounds { result.len ≤ length bytes.old }
 {
     let read = OuterHeaderCreation::unmarshal(payload);
@@ -170,7 +170,7 @@ fn row_of_outer_header_creation(payload: &[u8], bytes: &mut [u8]) -> LineRow
 // Reads and writes a PFD Contents. Its texts are in the payload.
 fn row_of_pfd_contents(payload: &[u8], bytes: &mut [u8]) -> LineRow
     requires { length payload.now ≤ length bytes.old }
-    ensures bytes_after { row_in result bytes.new ≡ some (row_p payload.now) }
+    ensures bytes_after { row_in result bytes.new ≡ Some (row_p payload.now) }
     ensures len_in_bounds { result.len ≤ length bytes.old }
 {
     let read = PfdContents::unmarshal(payload);
@@ -207,7 +207,7 @@ struct Found {
 // Reads the payload of a line's text into `bytes`.
 fn find_payload(text: &[u8], bytes: &mut [u8]) -> Found
     requires { length bytes.old ≡ 4096 }
-    ensures text_value { payload text.now ≡ pick result.good (some (take result.len bytes.new)) none }
+    ensures text_value { payload text.now ≡ pick result.good (Some (take result.len bytes.new)) None }
     ensures len_bound { result.len ≤ 4096 }
 {
     let n = text.len();

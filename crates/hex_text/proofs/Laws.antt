@@ -6,8 +6,7 @@ use native.Mathlib.Omega.{arith}
 use mathlib.Core.Path.{◌≡◌, refl, sym, ap, ◌∙◌}
 use mathlib.Core.Bool.{Bool, true, false, ◌&&◌}
 use mathlib.Core.List.{List, [], ◌∷◌, ◌++◌, append-nil}
-use mathlib.Core.Option
-use mathlib.Core.Option.{Option, none, some}
+use Rattle.std.specs.Prelude.{Option, None, Some}
 use lib.ListN.{length, take, drop, get_or, set, length-append, length-drop, length-set, take-append-drop, drop_of_length-le}
 use lib.Seq.{drop-cons, drop-drop, take-suc-set, append_snoc, drop-set-lt, length-take-le}
 use lib.Dec.{leb, ltb, lit<}
@@ -20,30 +19,30 @@ use Rattle.hex_text.specs.Hex.{digit, spelled, within, worth, led, pairs, tens, 
 -- ---- digits
 -- what a character is worth, 256 for one that is no digit
 abbrev pub worth_or : ℕ → ℕ
-worth_or c = Option.get_or (worth c) 256
+worth_or c = unwrap_or (worth c) 256
 
 -- what a table of these has for a character
 pub looked_up : (l : List ℕ) (c : ℕ) → l ≡ tabled worth_or 0 256 → c < 256 → get_or l c 0 ≡ worth_or c
 looked_up l c e h = rw e (entry worth_or 256 c h)
 
 -- a digit is worth the number that it stands for
-pub worth_digit : (n : ℕ) → n < 16 → worth (digit n) ≡ some n
+pub worth_digit : (n : ℕ) → n < 16 → worth (digit n) ≡ Some n
 unfolding worth digit
 worth_digit n h = known (worth (digit n)) (sym (entry (λ (k : ℕ). worth_or (digit k)) 16 n h) ∙ entry (λ (k : ℕ). k) 16 n h)
   where
-    known : (o : Option ℕ) → Option.get_or o 256 ≡ n → o ≡ some n
-    known (some m) e = ap some e
-    known none e = absurd (omega arith)
+    known : (o : Option ℕ) → unwrap_or o 256 ≡ n → o ≡ Some n
+    known (Some m) e = ap Some e
+    known None e = absurd (omega arith)
 
 -- a number below 16, where there is one
 abbrev Small : Option ℕ → Type 0
-Small none = Unit
-Small (some n) = n < 16
+Small None = Unit
+Small (Some n) = n < 16
 
-one_range : (low high c n : ℕ) (o : Option ℕ) → (c ≤ high → n < 16) → Small o → Small (pick (within low high c) (some n) o)
+one_range : (low high c n : ℕ) (o : Option ℕ) → (c ≤ high → n < 16) → Small o → Small (pick (within low high c) (Some n) o)
 one_range low high c n o f g = go (leb low c) (leb c high) refl
   where
-    go : (t u : Bool) → leb c high ≡ u → Small (pick (t && u) (some n) o)
+    go : (t u : Bool) → leb c high ≡ u → Small (pick (t && u) (Some n) o)
     go true true e = f (leb-true c high e)
     go true false e = g
     go false u e = g
@@ -58,9 +57,9 @@ worth_small c =
 worth_most : (c : ℕ) → worth_or c ≤ 256
 worth_most c = go (worth c) (worth_small c)
   where
-    go : (o : Option ℕ) → Small o → Option.get_or o 256 ≤ 256
-    go (some n) h = omega arith
-    go none h = omega arith
+    go : (o : Option ℕ) → Small o → unwrap_or o 256 ≤ 256
+    go (Some n) h = omega arith
+    go None h = omega arith
 
 pub looked_most : (l : List ℕ) (c : ℕ) → l ≡ tabled worth_or 0 256 → c < 256 → get_or l c 0 ≤ 256
 looked_most l c e h = rw (looked_up l c e h) (worth_most c)
@@ -87,9 +86,9 @@ length_pairs (suc n) (c ∷ []) = (omega arith, omega arith)
 length_pairs (suc n) (c ∷ d ∷ s) = go (worth c) (worth d) (length_pairs n s)
   where
     go : (o p : Option ℕ) → (length (pairs n s) ≤ n) × (2 * length (pairs n s) ≤ length s) → (length (led o p (pairs n s)) ≤ suc n) × (2 * length (led o p (pairs n s)) ≤ suc (suc (length s)))
-    go (some h) (some l) q = (omega arith, omega arith)
-    go (some h) none q = (omega arith, omega arith)
-    go none p q = (omega arith, omega arith)
+    go (Some h) (Some l) q = (omega arith, omega arith)
+    go (Some h) None q = (omega arith, omega arith)
+    go None p q = (omega arith, omega arith)
 
 -- what is read is bytes
 pub bytes_pairs : (n : ℕ) (s : List ℕ) → Bytes (pairs n s)
@@ -100,23 +99,23 @@ bytes_pairs (suc n) (c ∷ []) = tt
 bytes_pairs (suc n) (c ∷ d ∷ s) = go (worth c) (worth d) (worth_small c) (worth_small d) (bytes_pairs n s)
   where
     go : (o p : Option ℕ) → Small o → Small p → Bytes (pairs n s) → Bytes (led o p (pairs n s))
-    go (some h) (some l) a b q = (omega arith, q)
-    go (some h) none a b q = tt
-    go none p a b q = tt
+    go (Some h) (Some l) a b q = (omega arith, q)
+    go (Some h) None a b q = tt
+    go None p a b q = tt
 
 -- ---- reading pairs, a turn of the loop
 -- two worths, 256 for a character that is no digit, make a byte exactly where both are digits
-led_good : (o p : Option ℕ) (bs : List ℕ) → Option.get_or o 256 * 16 + Option.get_or p 256 ≤ 255 → led o p bs ≡ (Option.get_or o 256 * 16 + Option.get_or p 256) ∷ bs
+led_good : (o p : Option ℕ) (bs : List ℕ) → unwrap_or o 256 * 16 + unwrap_or p 256 ≤ 255 → led o p bs ≡ (unwrap_or o 256 * 16 + unwrap_or p 256) ∷ bs
 unfolding led
-led_good (some h) (some l) bs q = refl
-led_good (some h) none bs q = absurd (omega arith)
-led_good none p bs q = absurd (omega arith)
+led_good (Some h) (Some l) bs q = refl
+led_good (Some h) None bs q = absurd (omega arith)
+led_good None p bs q = absurd (omega arith)
 
-led_bad : (o p : Option ℕ) (bs : List ℕ) → Small o → Small p → 255 < Option.get_or o 256 * 16 + Option.get_or p 256 → led o p bs ≡ []
+led_bad : (o p : Option ℕ) (bs : List ℕ) → Small o → Small p → 255 < unwrap_or o 256 * 16 + unwrap_or p 256 → led o p bs ≡ []
 unfolding led
-led_bad (some h) (some l) bs a b q = absurd (omega arith)
-led_bad (some h) none bs a b q = refl
-led_bad none p bs a b q = refl
+led_bad (Some h) (Some l) bs a b q = absurd (omega arith)
+led_bad (Some h) None bs a b q = refl
+led_bad None p bs a b q = refl
 
 pairs_end : (n : ℕ) (s : List ℕ) → min n (length s / 2) ≡ 0 → pairs n s ≡ []
 unfolding pairs

@@ -1,6 +1,6 @@
 -- Bytes in hex, and numbers in decimal, as ASCII text.
 use Rattle.std.specs.Prelude.{ℕ, zero, suc, ◌+◌, ◌-◌, ◌*◌, ◌/◌, ◌%◌, Bool, ◌&&◌, List, [], ◌∷◌, ◌++◌, leb, ltb}
-use Rattle.std.proofs.Math.Option.{Option, none, some}
+use Rattle.std.specs.Prelude.{Option, None, Some}
 use Rattle.octets.specs.Octets.{pick}
 
 -- the upper-case digit of a number below 16: 0 to 9, then A to F
@@ -19,16 +19,16 @@ within low high c = leb low c && leb c high
 -- what a digit of either case is worth: 0 to 9, A to F, a to f; none for any other character
 unfoldable pub worth : ℕ → Option ℕ
 worth c =
-    pick (within 0x30 0x39 c) (some (c - 0x30))
-    (pick (within 0x41 0x46 c) (some (c - 0x41 + 10))
-    (pick (within 0x61 0x66 c) (some (c - 0x61 + 10))
-    none))
+    pick (within 0x30 0x39 c) (Some (c - 0x30))
+    (pick (within 0x41 0x46 c) (Some (c - 0x41 + 10))
+    (pick (within 0x61 0x66 c) (Some (c - 0x61 + 10))
+    None))
 
 -- a list that begins with the byte of two digits, and none where they aren't both digits
 unfoldable pub led : Option ℕ → Option ℕ → List ℕ → List ℕ
-led (some high) (some low) bs = (high * 16 + low) ∷ bs
-led (some high) none bs = []
-led none low bs = []
+led (Some high) (Some low) bs = (high * 16 + low) ∷ bs
+led (Some high) None bs = []
+led None low bs = []
 
 -- the bytes of the digit pairs that a text begins with, n at most
 unfoldable pub pairs : ℕ → List ℕ → List ℕ

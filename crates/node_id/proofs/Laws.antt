@@ -4,7 +4,7 @@ use native.Mathlib.Omega.{arith}
 use mathlib.Core.Path.{◌≡◌, refl, sym}
 use mathlib.Core.Bool.{Bool, true, false}
 use mathlib.Core.List.{List, ◌∷◌}
-use mathlib.Core.Option.{none}
+use Rattle.std.specs.Prelude.{None}
 use lib.Dec.{leb, eqb}
 use lib.ListN.{length, get_or, drop}
 use borrow.Author.Tests.{eq-eqb, leb-true, eqb-true}
@@ -25,7 +25,7 @@ pub record Address (k width : ℕ) (make : List ℕ → NodeId) : Type 0 where
   pub reads : (s : List ℕ) → by_type k s ≡ read_address number width make s
   pub means : (texts a : List ℕ) → meaning texts (make a) ≡ value a
   pub writes : (a : List ℕ) → wire (value a) ≡ k ∷ a
-  pub able : (texts a : List ℕ) → textual (make a).kind (is_text texts (make a).name) ≡ none
+  pub able : (texts a : List ℕ) → textual (make a).kind (is_text texts (make a).name) ≡ None
 
 ipv4_type : Address 0 4 of_ipv4
 unfolding by_type meaning meant wire textual

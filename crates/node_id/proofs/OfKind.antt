@@ -3,7 +3,7 @@ use Prim.Native.Nat.{ℕ, suc, ◌+◌, ◌≤◌, ◌<◌}
 use native.Mathlib.Omega.{arith}
 use mathlib.Core.Path.{◌≡◌, refl, sym, ap, ◌∙◌}
 use mathlib.Core.List.{List, [], ◌∷◌}
-use mathlib.Core.Option.{none}
+use Rattle.std.specs.Prelude.{None}
 use lib.ListN.{length, get_or, take, drop, length-drop}
 use lib.Seq.{length-take-le, take-length, take_all}
 use borrow.Author.Tests.{le-leb, eq-eqb}
@@ -29,7 +29,7 @@ pub record Cut (s : List ℕ) : Type 0 where
   pub within : used ≤ length s
   pub is_used : (read s).used ≡ used
   pub rewritten : wire (meaning s (read s).«record») ≡ take used s
-  pub able : textual (read s).«record».kind (is_text s (read s).«record».name) ≡ none
+  pub able : textual (read s).«record».kind (is_text s (read s).«record».name) ≡ None
   pub again : Bytes s → Reads reader (take used s) (meaning s (read s).«record») used
 
 cut_address : {k w : ℕ} {make : List ℕ → NodeId} (s : List ℕ) → length s ≤ 65535 → Address k w make → suc w ≤ length s → get_or s 0 0 ≡ k → Cut s
@@ -75,7 +75,7 @@ module _ {s : List ℕ} {v : Value} {n : ℕ} (r : Reads reader s v n) where
   rewritten = rw (← r.value, ← r.used, the_cut.is_used) the_cut.rewritten
 
   -- what was read can be written: neither 5 nor 6 nor 7
-  pub writable : write_refusal s (read s).«record» ≡ none
+  pub writable : write_refusal s (read s).«record» ≡ None
   unfolding write_refusal ◌then◌
   writable =
       let fits = (formed s r.done).0 in

@@ -1,6 +1,6 @@
 -- Node ID, as document 01 has it.
 use Rattle.std.specs.Prelude.{ℕ, zero, suc, ◌+◌, Bool, List, ◌∷◌, leb, eqb, length, get_or, drop, replicate}
-use Rattle.std.proofs.Math.Option.{Option, none, some}
+use Rattle.std.specs.Prelude.{Option, None, Some}
 use Rattle.answer.specs.declared.Answer.{Answer}
 use Rattle.answer.specs.declared.Answer.TheVariants.{Done, Short, NodeType, NotUtf8, InputTooLong, BadText}
 use Rattle.octets.specs.Octets.{pick, field}
@@ -81,9 +81,9 @@ reader = record { answer = λ s. (read s).answer; used = λ s. (read s).used; va
 
 -- 6 for a name that can't exist
 unfoldable pub textual : NodeIdType → Bool → Option Answer
-textual Ipv4 good = none
-textual Ipv6 good = none
-textual Fqdn good = pick good none (some (BadText 10))
+textual Ipv4 good = None
+textual Ipv6 good = None
+textual Fqdn good = pick good None (Some (BadText 10))
 
 -- what is tested before room: 5, 6, 7
 unfoldable pub write_refusal : List ℕ → NodeId → Option Answer

@@ -4,7 +4,7 @@ use native.Mathlib.Omega.{arith}
 use mathlib.Core.Path.{◌≡◌, refl, ap, ◌∙◌}
 use mathlib.Core.Bool.{Bool, true, false}
 use mathlib.Core.List.{List}
-use mathlib.Core.Option.{none}
+use Rattle.std.specs.Prelude.{None}
 use lib.Dec.{leb, eqb}
 use lib.ListN.{length, drop, get_or, replicate, length-append, length-replicate}
 use borrow.Author.Tests.{leb-true, eqb-true}
@@ -107,5 +107,5 @@ pub again : Again kind size left written_form writes stores
 unfolding writes stores answered stored
 again =
     image.again kind size left _ _ _ (λ s v n r d room. ap (λ (x : NodeId). wire (meaning s x)) (record_in_image s d room) ∙ ap wire r.value) (λ s v n r d room out.
-    let test : write_refusal s (record_at (left s d)) ≡ none = ap (write_refusal s) (record_in_image s d room) ∙ writable r in
+    let test : write_refusal s (record_at (left s d)) ≡ None = ap (write_refusal s) (record_in_image s d room) ∙ writable r in
     rw test (refl, refl))

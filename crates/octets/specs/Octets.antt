@@ -1,6 +1,6 @@
 -- Bytes as flags, numbers and addresses, and bytes put into an output.
 use Rattle.std.specs.Prelude.{ℕ, zero, suc, ◌+◌, ◌*◌, ◌/◌, ◌%◌, ◌^◌, ◌<◌, List, [], ◌∷◌, ◌++◌, Bool, true, false, ◌&&◌, length, take, drop, replicate, leb, ltb, eqb}
-use Rattle.std.proofs.Math.Option.{Option, none, some}
+use Rattle.std.specs.Prelude.{Option, None, Some}
 use Rattle.octets.specs.declared.MaybeIpv4.{MaybeIpv4}
 use Rattle.octets.specs.declared.MaybeIpv6.{MaybeIpv6}
 use Rattle.octets.specs.declared.MaybeU8.{MaybeU8}
@@ -56,8 +56,8 @@ unfoldable pub ipv6_of : List ℕ → MaybeIpv6
 ipv6_of bs = pick (eqb (length bs) 16) (record { given = true; octets = bs }) (record { given = false; octets = replicate 16 0 })
 
 -- what a field beside a flag means: what stands in an absent one doesn't count
-unfoldable pub presence {ℓ} : {A : Type ℓ} → Bool → A → Option A
-presence given x = pick given (some x) none
+unfoldable pub presence : {A : Type 0} → Bool → A → Option A
+presence given x = pick given (Some x) None
 
 abbrev pub ipv4_meaning : MaybeIpv4 → Option (List ℕ)
 ipv4_meaning a = presence a.given a.octets
@@ -89,13 +89,13 @@ u32_meaning a = presence a.given a.value
 
 -- the bytes of a field that may be absent
 unfoldable pub bytes_if : Option (List ℕ) → List ℕ
-bytes_if none = []
-bytes_if (some bs) = bs
+bytes_if None = []
+bytes_if (Some bs) = bs
 
 -- the w bytes of a number that may be absent
 unfoldable pub number_if : ℕ → Option ℕ → List ℕ
-number_if w none = []
-number_if w (some x) = big_endian_bytes w x
+number_if w None = []
+number_if w (Some x) = big_endian_bytes w x
 
 -- an output with these bytes from a place on
 unfoldable pub over : List ℕ → ℕ → List ℕ → List ℕ

@@ -4,7 +4,7 @@ use native.Mathlib.Omega.{arith}
 use mathlib.Core.Path.{◌≡◌, refl, ap}
 use mathlib.Core.Bool.{Bool, true, false, ◌&&◌}
 use mathlib.Core.List.{List, [], ◌∷◌}
-use mathlib.Core.Option.{Option, none, some}
+use Rattle.std.specs.Prelude.{Option, None, Some}
 use lib.ListN.{length, get_or}
 use Rattle.types.specs.declared.MaybeTeid.{MaybeTeid}
 use Rattle.octets.specs.declared.MaybeIpv4.{MaybeIpv4}
@@ -23,7 +23,7 @@ ends s = ends_of (asked (flags_of (get_or s 0 0)))
 -- ---- what is written under a flag
 
 -- an address or a tag, where it is given too
-pub sent_given {ℓ} : {A : Type ℓ} (bytes : Option A → List ℕ) → bytes none ≡ [] → (f g : Bool) (x : A) → bytes (presence (f && g) x) ≡ sent_if f (bytes (presence g x))
+pub sent_given {ℓ} : {A : Type ℓ} (bytes : Option A → List ℕ) → bytes None ≡ [] → (f g : Bool) (x : A) → bytes (presence (f && g) x) ≡ sent_if f (bytes (presence g x))
 unfolding presence sent_if
 sent_given bytes e true g x = refl
 sent_given bytes e false g x = e
@@ -54,8 +54,8 @@ module _ (f : Bool) (w : ℕ) (bs : List ℕ) (e : length bs ≡ if_set f w) whe
   back_anyway o h q = go f o e q
     where
       go : (f : Bool) (o : Option ℕ) → length bs ≡ if_set f w → number_if w o ≡ bs → sent_if f (big_endian_bytes w (or_zero o)) ≡ bs
-      go true none e q = absurd (omega (arith, ap length q))
-      go true (some x) e q = q
+      go true None e q = absurd (omega (arith, ap length q))
+      go true (Some x) e q = q
       go false o e q = no_bytes bs e
 
 -- ---- a record of parts that calls handed over

@@ -1,7 +1,7 @@
 -- Outer Header Creation, as document 01 has it.
 use Rattle.std.specs.Prelude.{ℕ, ◌+◌, ◌%◌, ◌^◌, Bool, true, false, ◌||◌, get_or, replicate}
 use mathlib.Core.List.{List, [], ◌∷◌, flatten}
-use Rattle.std.proofs.Math.Option.{Option, none, some}
+use Rattle.std.specs.Prelude.{Option, None, Some}
 use Rattle.answer.specs.declared.Answer.{Answer}
 use Rattle.answer.specs.declared.Answer.TheVariants.{Done}
 use Rattle.types.specs.declared.Teid.{Teid}
@@ -83,8 +83,8 @@ sent_if f bs = pick f bs []
 
 -- a number that may be absent, which is then sent as 0
 unfoldable pub or_zero : Option ℕ → ℕ
-or_zero none = 0
-or_zero (some x) = x
+or_zero None = 0
+or_zero (Some x) = x
 
 -- flags and a zero byte, then each field under its flags: TEID and port also where they are absent, an address or a tag only where it is given
 unfoldable pub wire : Value → List ℕ

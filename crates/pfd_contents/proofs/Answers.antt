@@ -2,7 +2,7 @@
 use Prim.Native.Nat.{ℕ, ◌≤◌, ◌<◌}
 use mathlib.Core.Path.{◌≡◌, ap, sym, ◌∙◌}
 use mathlib.Core.List.{List}
-use mathlib.Core.Option.{none}
+use Rattle.std.specs.Prelude.{None}
 use borrow.Author.Tests.{le-leb, lt-leb, ne_eqb}
 use lib.ListN.{length}
 use Rattle.answer.specs.declared.Answer.TheVariants.{Done, InputTooLong, BadText, OutputTooLong, NoRoom}
@@ -31,7 +31,7 @@ module _ (t : List ℕ) (r : PfdContents) (d : List ℕ) where
     bad w h q = (rw (le-leb _ _ f, ← e, ne_eqb b 0 h) q, rw (le-leb _ _ f, ← e, ne_eqb b 0 h))
 
     module _ (z : b ≡ 0) (ok : Bytes t) (n : ℕ) (k : n ≡ length (wire_by_runs t r)) where
-      passed : tested t r ≡ none
+      passed : tested t r ≡ None
       passed = sym e ∙ ap as_refusal z
 
       -- what is left to test

@@ -4,7 +4,7 @@ use native.Mathlib.Omega.{arith}
 use mathlib.Core.Path.{◌≡◌, refl}
 use mathlib.Core.List.{List}
 use mathlib.Core.Bool.{Bool, true, false}
-use mathlib.Core.Option.{Option, none, some}
+use Rattle.std.specs.Prelude.{Option, None, Some}
 use Rattle.answer.specs.declared.Answer.{Answer}
 use Rattle.octets.specs.Octets.{Bytes}
 use Rattle.kind.specs.Write.{◌then◌}
@@ -16,18 +16,18 @@ use Rattle.text_fields.proofs.Meant.{list_wire_law}
 
 -- ---- tests that all passed
 
-pub passed_then : (a b : Option Answer) → (a then b) ≡ none → (a ≡ none) × (b ≡ none)
+pub passed_then : (a b : Option Answer) → (a then b) ≡ None → (a ≡ None) × (b ≡ None)
 unfolding ◌then◌
-passed_then none b h = (refl, h)
-passed_then (some x) b h = let z : ◌≡◌ {A = ℕ} 0 1 = cc in absurd (omega arith)
+passed_then None b h = (refl, h)
+passed_then (Some x) b h = let z : ◌≡◌ {A = ℕ} 0 1 = cc in absurd (omega arith)
 
-good : (k : ℕ) (g : Bool) → bad k g ≡ none → g ≡ true
+good : (k : ℕ) (g : Bool) → bad k g ≡ None → g ≡ true
 good k true h = refl
 good k false h = let z : ◌≡◌ {A = ℕ} 0 1 = cc in absurd (omega arith)
 
 module _ (s : List ℕ) where
   -- a record whose fields all can be is written as its texts and its runs
-  pub formed : Bytes s → (r : PfdContents) → tested s r ≡ none → wire_by_runs s r ≡ wire (meaning s r)
+  pub formed : Bytes s → (r : PfdContents) → tested s r ≡ None → wire_by_runs s r ≡ wire (meaning s r)
   unfolding tested wire_by_runs wire meaning
   formed b r h =
       let t₁ = passed_then _ _ h in

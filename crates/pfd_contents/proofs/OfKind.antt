@@ -4,7 +4,7 @@ use native.Mathlib.Omega.{arith}
 use mathlib.Core.Path.{◌≡◌, refl, sym, ap, ap₂, ◌∙◌}
 use mathlib.Core.Bool.{Bool, true, false, ◌||◌}
 use mathlib.Core.List.{List, [], ◌∷◌, ◌++◌}
-use mathlib.Core.Option.{none}
+use Rattle.std.specs.Prelude.{None}
 use lib.Bits.{bit_and, and_mask, and_zero_r}
 use lib.Dec.{leb}
 use lib.ListN.{length, get_or, take}
@@ -60,7 +60,7 @@ record Ended (s : List ℕ) (f : ℕ) : Type 0 where
   within : n ≤ length s
   reads : read_fields s f ≡ accepted n r
   writes : wire (meaning s r) ≡ f ∷ 0 ∷ field s 2 (n - 2)
-  able : tested s r ≡ none
+  able : tested s r ≡ None
   again : {t : List ℕ} → Cut n s t → (read_fields t f ≡ accepted n r) × (meaning t r ≡ meaning s r)
 
 -- the bytes up to a place, and one part more
@@ -92,7 +92,7 @@ all_able : (s : List ℕ) (r : PfdContents)
     → is_list s r.additional_flow_description ≡ true
     → is_list s r.additional_url ≡ true
     → is_list s r.additional_domain_name_and_protocol ≡ true
-    → tested s r ≡ none
+    → tested s r ≡ None
 unfolding tested ◌then◌
 all_able s r e₁ e₂ e₃ e₄ e₅ e₆ e₇ e₈ = rw (e₁, e₂, e₃, e₄, e₅, e₆, e₇, e₈)
 
@@ -250,7 +250,7 @@ module _ {s : List ℕ} {v : Value} {n : ℕ} (r : Reads reader s v n) where
       ∙ sym (cleared s n r.bytes from within)
 
   -- what was read can be written: neither 5 nor 6 nor 7
-  pub writable : write_refusal s (read s).«record» ≡ none
+  pub writable : write_refusal s (read s).«record» ≡ None
   unfolding write_refusal ◌then◌
   writable =
       let e : (read s).«record» ≡ end.r = ap (λ (x : PfdContentsRead). x.«record») is_read in

@@ -4,7 +4,7 @@ use native.Mathlib.Omega.{arith}
 use mathlib.Core.Path.{◌≡◌, ap, refl, ◌∙◌}
 use mathlib.Core.List.{List, [], ◌∷◌}
 use mathlib.Core.Bool.{Bool, true, false, not}
-use mathlib.Core.Option.{Option, none, some}
+use Rattle.std.specs.Prelude.{Option, None, Some}
 use lib.Dec.{eqb-suc-zero}
 use lib.ListN.{length, take, drop, length-append, length-take, length-drop}
 use Rattle.answer.specs.declared.Answer.{Answer}
@@ -30,8 +30,8 @@ one_more (suc b) k good = simp (eqb-suc-zero b)
 
 then_assoc : (a b c : Option Answer) → ((a then b) then c) ≡ (a then (b then c))
 unfolding ◌then◌
-then_assoc none b c = refl
-then_assoc (some x) b c = refl
+then_assoc None b c = refl
+then_assoc (Some x) b c = refl
 
 after : (before r k : ℕ) (good : Bool) {x : Option Answer} → r ≡ first_bad before good (suc k) → as_refusal before ≡ x → as_refusal r ≡ (x then bad (suc k) good)
 after before r k good e p = ap as_refusal e ∙ one_more before k good ∙ ap (λ (y : Option Answer). y then bad (suc k) good) p

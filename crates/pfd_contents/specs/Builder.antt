@@ -1,6 +1,6 @@
 -- The builder of PFD Contents, as document 01 has it.
 use Rattle.std.specs.Prelude.{ℕ, Bool, false, not, ◌||◌, List, [], ◌∷◌, length}
-use Rattle.std.proofs.Math.Option.{Option, none, some}
+use Rattle.std.specs.Prelude.{Option, None, Some}
 use Rattle.answer.specs.declared.Answer.{Answer}
 use Rattle.answer.specs.declared.Answer.TheVariants.{Done, Unbuilt}
 use Rattle.octets.specs.Octets.{pick, flag_byte}
@@ -92,15 +92,15 @@ built_record b =
 
 -- 5, 6, then 9 with rule 6 for no field and no list entry
 unfoldable pub build_refusal : List ℕ → PfdContentsBuilder → Option Answer
-build_refusal texts b = too_long_input (length texts) then tested texts (built_record b) then pick (any (present b)) none (some (Unbuilt 6))
+build_refusal texts b = too_long_input (length texts) then tested texts (built_record b) then pick (any (present b)) None (Some (Unbuilt 6))
 
 -- a refused build: the empty record
 abbrev pub unbuilt : Answer → PfdContentsBuilt
 unbuilt a = record { answer = a; «record» = empty_pfd }
 
 unfoldable pub built_by : Option Answer → PfdContents → PfdContentsBuilt
-built_by none r = record { answer = Done; «record» = r }
-built_by (some a) r = unbuilt a
+built_by None r = record { answer = Done; «record» = r }
+built_by (Some a) r = unbuilt a
 
 unfoldable pub built : List ℕ → PfdContentsBuilder → PfdContentsBuilt
 built texts b = built_by (build_refusal texts b) (built_record b)

@@ -1,6 +1,6 @@
 -- PFD Contents, as document 01 has it.
 use Rattle.std.specs.Prelude.{ℕ, false, ◌||◌, List, [], ◌∷◌, ◌++◌, leb, length, get_or}
-use Rattle.std.proofs.Math.Option.{Option}
+use Rattle.std.specs.Prelude.{Option}
 use Rattle.answer.specs.declared.Answer.{Answer}
 use Rattle.answer.specs.declared.Answer.TheVariants.{Done, Short, InputTooLong}
 use Rattle.octets.specs.Octets.{pick, bit}

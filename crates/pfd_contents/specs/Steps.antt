@@ -1,6 +1,6 @@
 -- What the private functions of the writer promise: nothing here is the paper's.
 use Rattle.std.specs.Prelude.{ℕ, List, [], ◌∷◌, ◌++◌, eqb}
-use Rattle.std.proofs.Math.Option.{Option, none, some}
+use Rattle.std.specs.Prelude.{Option, None, Some}
 use Rattle.octets.specs.Octets.{pick}
 use Rattle.answer.specs.declared.Answer.{Answer}
 use Rattle.answer.specs.declared.Answer.TheVariants.{BadText}
@@ -22,4 +22,4 @@ wire_by_runs texts r =
 
 -- a field number that is refused with 6, where 0 is none
 abbrev pub as_refusal : ℕ → Option Answer
-as_refusal k = pick (eqb k 0) none (some (BadText k))
+as_refusal k = pick (eqb k 0) None (Some (BadText k))

@@ -4,7 +4,7 @@ use native.Mathlib.Omega.{arith}
 use mathlib.Core.Path.{◌≡◌, refl, sym, ap, ◌∙◌}
 use mathlib.Core.Bool.{Bool, true, false, ◌||◌}
 use mathlib.Core.List.{List, ◌++◌}
-use mathlib.Core.Option.{none}
+use Rattle.std.specs.Prelude.{None}
 use lib.Dec.{leb}
 use lib.ListN.{length, get_or, length-append}
 use borrow.Author.Tests.{leb-true}
@@ -211,5 +211,5 @@ pub again : Again kind size left written_form writes stores
 unfolding writes stores answered stored
 again =
     image.again kind size left _ _ _ (λ s v n r d room. ap (λ (x : PfdContents). wire (meaning s x)) (record_in_image s d room) ∙ ap wire r.value) (λ s v n r d room out.
-    let test : write_refusal s (record_at (left s d)) ≡ none = ap (write_refusal s) (record_in_image s d room) ∙ writable r in
+    let test : write_refusal s (record_at (left s d)) ≡ None = ap (write_refusal s) (record_in_image s d room) ∙ writable r in
     rw test (refl, refl))

@@ -1,6 +1,6 @@
 -- The sample payloads of document 01 that are marked *, and what is said of each: one table.
 use Rattle.std.specs.Prelude.{ℕ, Bool, true, false, List, [], ◌∷◌, eqb}
-use Rattle.std.proofs.Math.Option.{Option, none, some}
+use Rattle.std.specs.Prelude.{Option, None, Some}
 use Rattle.answer.specs.declared.Answer.{Answer}
 use Rattle.answer.specs.declared.Answer.TheVariants.{Done, Flags, NodeType, NotUtf8}
 use Rattle.answer.specs.Paper.{number_of}
@@ -90,34 +90,34 @@ ue_ip v4 chv6 ip6pl ipv4 prefix_length =
       chv6 = chv6;
       ip6pl = ip6pl;
       ipv4 = ipv4;
-      ipv6 = none;
-      delegation_bits = none;
+      ipv6 = None;
+      delegation_bits = None;
       prefix_length = prefix_length;
     })
 
 abbrev pub tunnel : (ch : Bool) → (teid : ℕ) → Meant
-tunnel ch teid = of_f (record { v4 = false; v6 = false; ch = ch; chid = false; teid = teid; ipv4 = none; ipv6 = none; choose_id = 0 })
+tunnel ch teid = of_f (record { v4 = false; v6 = false; ch = ch; chid = false; teid = teid; ipv4 = None; ipv6 = None; choose_id = 0 })
 
 abbrev pub session : (seid : ℕ) → (ipv4 : List ℕ) → Meant
-session seid ipv4 = of_s (record { v4 = true; v6 = false; seid = seid; ipv4 = some ipv4; ipv6 = none })
+session seid ipv4 = of_s (record { v4 = true; v6 = false; seid = seid; ipv4 = Some ipv4; ipv6 = None })
 
 abbrev pub named : List ℕ → Meant
 named name = of_n (node.fqdn name)
 
 abbrev pub gtpu_ipv4 : (teid : ℕ) → (ipv4 : List ℕ) → Meant
 gtpu_ipv4 teid ipv4 =
-    of_o (record { flags = ohc.flags_of 0x01; teid = some teid; ipv4 = some ipv4; ipv6 = none; port = none; ctag = none; stag = none })
+    of_o (record { flags = ohc.flags_of 0x01; teid = Some teid; ipv4 = Some ipv4; ipv6 = None; port = None; ctag = None; stag = None })
 
 abbrev pub filters : (flags : ℕ) → (flows urls : List (List ℕ)) → Meant
 filters flags flows urls =
     of_p
     (record {
       flags = flags;
-      flow_description = none;
-      url = none;
-      domain_name = none;
-      custom_pfd_content = none;
-      domain_name_protocol = none;
+      flow_description = None;
+      url = None;
+      domain_name = None;
+      custom_pfd_content = None;
+      domain_name_protocol = None;
       additional_flow_description = flows;
       additional_url = urls;
       additional_domain_name_and_protocol = [];
@@ -131,11 +131,11 @@ home = 0xC0 ∷ 0x00 ∷ 0x02 ∷ 0x01 ∷ []
 abbrev pub marked : List Sample
 marked =
     -- UE IP
-    accepted U (0x02 ∷ 0xC0 ∷ 0x00 ∷ 0x02 ∷ 0x01 ∷ 0xFF ∷ []) 5 (ue_ip true false false (some home) none) (0x02 ∷ home) true
-    ∷ accepted U (0x82 ∷ 0xC0 ∷ 0x00 ∷ 0x02 ∷ 0x01 ∷ []) 5 (ue_ip true false false (some home) none) (0x02 ∷ home) true
-    ∷ refused U (0x12 ∷ []) (Flags 0x12 1) (ue_ip false false false none none)
-    ∷ refused U (0x48 ∷ []) (Flags 0x48 2) (ue_ip false false false none none)
-    ∷ accepted U (0x60 ∷ 0x40 ∷ []) 2 (ue_ip false true true none (some 64)) (0x60 ∷ 0x40 ∷ []) true
+    accepted U (0x02 ∷ 0xC0 ∷ 0x00 ∷ 0x02 ∷ 0x01 ∷ 0xFF ∷ []) 5 (ue_ip true false false (Some home) None) (0x02 ∷ home) true
+    ∷ accepted U (0x82 ∷ 0xC0 ∷ 0x00 ∷ 0x02 ∷ 0x01 ∷ []) 5 (ue_ip true false false (Some home) None) (0x02 ∷ home) true
+    ∷ refused U (0x12 ∷ []) (Flags 0x12 1) (ue_ip false false false None None)
+    ∷ refused U (0x48 ∷ []) (Flags 0x48 2) (ue_ip false false false None None)
+    ∷ accepted U (0x60 ∷ 0x40 ∷ []) 2 (ue_ip false true true None (Some 64)) (0x60 ∷ 0x40 ∷ []) true
     -- F-TEID
     ∷ accepted F (0x04 ∷ []) 1 (tunnel true 0) (0x04 ∷ []) false
     ∷ refused F (0x08 ∷ []) (Flags 0x08 4) (tunnel false 0)

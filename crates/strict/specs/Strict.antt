@@ -1,6 +1,6 @@
 -- The strict verdict on a payload, as document 01 has it.
 use Rattle.std.specs.Prelude.{ℕ, Bool, true, false, not, ◌&&◌, ◌||◌, List, [], ◌∷◌, eqb}
-use Rattle.std.proofs.Math.Option.{Option, none, some}
+use Rattle.std.specs.Prelude.{Option, None, Some}
 use Rattle.answer.specs.Paper.{number_of}
 use Rattle.octets.specs.Octets.{bit}
 use Rattle.kind.specs.Kind.{Reader}
@@ -18,8 +18,8 @@ verdict r asks s = eqb (number_of (r.answer s)) 0 && asks (r.value s)
 
 -- a field that is present, a list that isn't empty
 abbrev pub present : {A : Type 0} → Option A → Bool
-present none = false
-present (some x) = true
+present None = false
+present (Some x) = true
 
 abbrev pub non_empty : {A : Type 0} → List A → Bool
 non_empty [] = false

@@ -5,7 +5,7 @@ use native.Mathlib.Nat.{add-sub_cancel_left}
 use mathlib.Core.Path.{◌≡◌, ap, ap₂, sym, refl, ◌∙◌}
 use mathlib.Core.List.{List, [], ◌∷◌}
 use mathlib.Core.Bool.{Bool, true, false, or-true}
-use mathlib.Core.Option.{some}
+use Rattle.std.specs.Prelude.{Some}
 use borrow.Author.Tests.{le-leb, eq-eqb}
 use lib.ListN.{length, take, drop, length-take}
 use Rattle.octets.specs.Octets.{pick, Bytes, field, big_endian, presence}
@@ -165,7 +165,7 @@ module _ (s : List ℕ) (b : Bytes s) (at : ℕ) (two : 2 ≤ at) (in-s : at ≤
         within = w.2;
         writes = own s b at e ∙ ap (field s at) (sym z);
         able = rw (le-leb (p + m) (length s) w.2, eq-eqb (good_len (take m (drop p s))) m (omega (arith, good_fits (take m (drop p s)), length-take m (drop p s))));
-        again = λ c k. (h _ _ c k, ap some (c.alike p m (omega (arith, w.0)) k));
+        again = λ c k. (h _ _ c k, ap Some (c.alike p m (omega (arith, w.0)) k));
       }
 
   pub text_kept : (f : Bool) (x : MaybeText) (next : ℕ) → text s f at ≡ took x next → TextKept (λ t. text t f at) next x

@@ -1,6 +1,6 @@
 -- Text fields and runs of them, as document 01 has them.
 use Rattle.std.specs.Prelude.{ℕ, zero, suc, ◌+◌, ◌-◌, Bool, true, false, not, ◌||◌, ◌&&◌, List, [], ◌∷◌, ◌++◌, ltb, eqb, length}
-use Rattle.std.proofs.Math.Option.{Option, none, some}
+use Rattle.std.specs.Prelude.{Option, None, Some}
 use Rattle.answer.specs.declared.Answer.{Answer}
 use Rattle.answer.specs.declared.Answer.TheVariants.{Done, Short, NotUtf8, BadText}
 use Rattle.octets.specs.Octets.{pick, field, big_endian, big_endian_bytes, presence}
@@ -43,8 +43,8 @@ unfoldable pub field_of : List ℕ → List ℕ
 field_of t = big_endian_bytes 2 (length t) ++ t
 
 unfoldable pub text_wire : Option (List ℕ) → List ℕ
-text_wire none = []
-text_wire (some t) = field_of t
+text_wire None = []
+text_wire (Some t) = field_of t
 
 unfoldable pub list_wire : List (List ℕ) → List ℕ
 list_wire [] = []
@@ -125,7 +125,7 @@ is_list texts x =
 
 -- 6 for a field that can't be
 abbrev pub bad : ℕ → Bool → Option Answer
-bad number good = pick good none (some (BadText number))
+bad number good = pick good None (Some (BadText number))
 
 -- ---- adding an entry to a list
 
@@ -147,8 +147,8 @@ with_entry texts l at = pick (is_empty l) (run_of at (entry_end texts at) 1) (ru
 
 -- refused, the list is as before
 unfoldable pub added_by : Option Answer → TextList → TextList → ListAdded
-added_by none new old = record { answer = Done; list = new }
-added_by (some a) new old = record { answer = a; list = old }
+added_by None new old = record { answer = Done; list = new }
+added_by (Some a) new old = record { answer = a; list = old }
 
 unfoldable pub added : ℕ → List ℕ → TextList → ℕ → ListAdded
 added number texts l at = added_by (add_refusal number texts l at) (with_entry texts l at) l

@@ -5,7 +5,7 @@ use native.Mathlib.Omega.{arith}
 use mathlib.Core.Path.{◌≡◌, refl, sym, ap, ap₂, ◌∙◌}
 use mathlib.Core.Bool.{Bool, true, false, not, ◌&&◌, and-false}
 use mathlib.Core.List.{List, [], ◌∷◌, ◌++◌, append-nil}
-use mathlib.Core.Option.{Option, none, some}
+use Rattle.std.specs.Prelude.{Option, None, Some}
 use lib.Dec.{eqb, leb, ltb}
 use lib.ListN.{length, take, drop, get_or, replicate, length-drop, drop_of_length-le}
 use lib.Seq.{take_all, take-length, drop-drop, drop-cons, append_snoc}
@@ -104,8 +104,8 @@ module _ (list word p : List ℕ) (at end count n : ℕ) (b : Bool) (found : end
   place_here h =
       let word-here : words_of (drop at list) ≡ p ∷ drop 1 (words_of (drop at list)) =
       words_start (drop at list) (omega (arith, k, length-drop at list)) ∙ ap (λ (l : List ℕ). l ∷ drop 1 (words_of (drop at list))) first in
-      let none : place_of word (words_of (drop at list)) ≡ 0 = rw (word-here, ← told p word b test, h) in
-      omega (arith, left, none)
+      let None : place_of word (words_of (drop at list)) ≡ 0 = rw (word-here, ← told p word b test, h) in
+      omega (arith, left, None)
 
   pub place_last : b ≡ false → end ≡ length list → count + 1 ≡ n
   unfolding place_of
@@ -113,8 +113,8 @@ module _ (list word p : List ℕ) (at end count n : ℕ) (b : Bool) (found : end
       let one : words_of (drop at list) ≡ p ∷ [] =
       cut_last [] (drop at list) (omega (arith, k, length-drop at list))
       ∙ ap (λ (l : List ℕ). l ∷ []) (sym (take_all (index_of 0x20 (drop at list)) (drop at list) (omega (arith, k, length-drop at list))) ∙ first) in
-      let none : place_of word (words_of (drop at list)) ≡ 1 = rw (one, ← told p word b test, h) in
-      omega (arith, left, none)
+      let None : place_of word (words_of (drop at list)) ≡ 1 = rw (one, ← told p word b test, h) in
+      omega (arith, left, None)
 
   pub place_more : b ≡ false → (end ≡ length list → ⊥) → count + 1 + place_of word (words_of (drop (end + 1) list)) ≡ n
   unfolding place_of
@@ -148,7 +148,7 @@ grows n [] = omega arith
 grows n (c ∷ s) = omega (arith, grows (n * 10 + (c - 0x30)) s)
 
 -- what a further digit gives, from the tests
-pub digit_no : (n c : ℕ) → within 0x30 0x39 c ≡ false → with_digit n c ≡ none
+pub digit_no : (n c : ℕ) → within 0x30 0x39 c ≡ false → with_digit n c ≡ None
 unfolding with_digit presence
 digit_no n c h = rw h
 
@@ -156,40 +156,40 @@ module _ (n c : ℕ) (low : 0x30 ≤ c) (high : c ≤ 0x39) where
   is_digit : within 0x30 0x39 c ≡ true
   is_digit = rw (le-leb 0x30 c low, le-leb c 0x39 high)
 
-  pub digit_over : 2 ^ 64 ≤ n * 10 + (c - 0x30) → with_digit n c ≡ none
+  pub digit_over : 2 ^ 64 ≤ n * 10 + (c - 0x30) → with_digit n c ≡ None
   unfolding with_digit presence
   digit_over h = rw (is_digit, le-ltb (n * 10 + (c - 0x30)) (2 ^ 64) h)
 
-  pub digit_yes : n * 10 + (c - 0x30) < 2 ^ 64 → with_digit n c ≡ some (n * 10 + (c - 0x30))
+  pub digit_yes : n * 10 + (c - 0x30) < 2 ^ 64 → with_digit n c ≡ Some (n * 10 + (c - 0x30))
   unfolding with_digit presence
   digit_yes h = rw (is_digit, lt-ltb (n * 10 + (c - 0x30)) (2 ^ 64) h)
 
-number_more : (n m c : ℕ) (s : List ℕ) → with_digit n c ≡ some m → number_from n (c ∷ s) ≡ number_from m s
+number_more : (n m c : ℕ) (s : List ℕ) → with_digit n c ≡ Some m → number_from n (c ∷ s) ≡ number_from m s
 unfolding with_digit presence are_digits spells
 number_more n m c s e = go (within 0x30 0x39 c) (ltb (n * 10 + (c - 0x30)) (2 ^ 64)) e
   where
-    go : (t u : Bool) → pick (t && u) (some (n * 10 + (c - 0x30))) none ≡ some m
-        → pick ((t && are_digits s) && ltb (spells (n * 10 + (c - 0x30)) s) (2 ^ 64)) (some (spells (n * 10 + (c - 0x30)) s)) none
-        ≡ pick (are_digits s && ltb (spells m s) (2 ^ 64)) (some (spells m s)) none
+    go : (t u : Bool) → pick (t && u) (Some (n * 10 + (c - 0x30))) None ≡ Some m
+        → pick ((t && are_digits s) && ltb (spells (n * 10 + (c - 0x30)) s) (2 ^ 64)) (Some (spells (n * 10 + (c - 0x30)) s)) None
+        ≡ pick (are_digits s && ltb (spells m s) (2 ^ 64)) (Some (spells m s)) None
     go true true e = let q : n * 10 + (c - 0x30) ≡ m = cc in rw q
     go true false e = let z : ◌≡◌ {A = ℕ} 0 1 = cc in absurd (omega arith)
     go false u e = let z : ◌≡◌ {A = ℕ} 0 1 = cc in absurd (omega arith)
 
-number_fits : (n m c : ℕ) → with_digit n c ≡ some m → m < 2 ^ 64
+number_fits : (n m c : ℕ) → with_digit n c ≡ Some m → m < 2 ^ 64
 unfolding with_digit presence
 number_fits n m c e = go (within 0x30 0x39 c) (ltb (n * 10 + (c - 0x30)) (2 ^ 64)) refl e
   where
-    go : (t u : Bool) → ltb (n * 10 + (c - 0x30)) (2 ^ 64) ≡ u → pick (t && u) (some (n * 10 + (c - 0x30))) none ≡ some m → m < 2 ^ 64
+    go : (t u : Bool) → ltb (n * 10 + (c - 0x30)) (2 ^ 64) ≡ u → pick (t && u) (Some (n * 10 + (c - 0x30))) None ≡ Some m → m < 2 ^ 64
     go true true f e = let q : n * 10 + (c - 0x30) ≡ m = cc in rw q at (ltb-true (n * 10 + (c - 0x30)) (2 ^ 64) f)
     go true false f e = let z : ◌≡◌ {A = ℕ} 0 1 = cc in absurd (omega arith)
     go false u f e = let z : ◌≡◌ {A = ℕ} 0 1 = cc in absurd (omega arith)
 
-number_stop : (n c : ℕ) (s : List ℕ) → with_digit n c ≡ none → number_from n (c ∷ s) ≡ none
+number_stop : (n c : ℕ) (s : List ℕ) → with_digit n c ≡ None → number_from n (c ∷ s) ≡ None
 unfolding with_digit presence are_digits spells
 number_stop n c s e = go (within 0x30 0x39 c) (ltb (n * 10 + (c - 0x30)) (2 ^ 64)) refl e
   where
-    go : (t u : Bool) → ltb (n * 10 + (c - 0x30)) (2 ^ 64) ≡ u → pick (t && u) (some (n * 10 + (c - 0x30))) none ≡ none
-        → pick ((t && are_digits s) && ltb (spells (n * 10 + (c - 0x30)) s) (2 ^ 64)) (some (spells (n * 10 + (c - 0x30)) s)) none ≡ none
+    go : (t u : Bool) → ltb (n * 10 + (c - 0x30)) (2 ^ 64) ≡ u → pick (t && u) (Some (n * 10 + (c - 0x30))) None ≡ None
+        → pick ((t && are_digits s) && ltb (spells (n * 10 + (c - 0x30)) s) (2 ^ 64)) (Some (spells (n * 10 + (c - 0x30)) s)) None ≡ None
     go true true f e = let z : ◌≡◌ {A = ℕ} 0 1 = cc in absurd (omega arith)
     go true false f e =
         let big : 2 ^ 64 ≤ n * 10 + (c - 0x30) = ltb-false (n * 10 + (c - 0x30)) (2 ^ 64) f in
@@ -198,23 +198,23 @@ number_stop n c s e = go (within 0x30 0x39 c) (ltb (n * 10 + (c - 0x30)) (2 ^ 64
     go false u f e = refl
 
 -- what a number that was parsed says of its text
-parsed_good : (o : Option ℕ) (r : Parsed) → r ≡ as_parsed o → not r.is_good ≡ false → o ≡ some r.value
+parsed_good : (o : Option ℕ) (r : Parsed) → r ≡ as_parsed o → not r.is_good ≡ false → o ≡ Some r.value
 unfolding as_parsed
-parsed_good (some m) r e h = ap some (sym (ap (λ (x : Parsed). x.value) e))
-parsed_good none r e h =
+parsed_good (Some m) r e h = ap Some (sym (ap (λ (x : Parsed). x.value) e))
+parsed_good None r e h =
     let q : r.is_good ≡ false = ap (λ (x : Parsed). x.is_good) e in
     let f = rw q at h in
     let z : ◌≡◌ {A = ℕ} 0 1 = cc in absurd (omega arith)
 
-parsed_bad : (o : Option ℕ) (r : Parsed) → r ≡ as_parsed o → not r.is_good ≡ true → o ≡ none
+parsed_bad : (o : Option ℕ) (r : Parsed) → r ≡ as_parsed o → not r.is_good ≡ true → o ≡ None
 unfolding as_parsed
-parsed_bad none r e h = refl
-parsed_bad (some m) r e h =
+parsed_bad None r e h = refl
+parsed_bad (Some m) r e h =
     let q : r.is_good ≡ true = ap (λ (x : Parsed). x.is_good) e in
     let f = rw q at h in
     let z : ◌≡◌ {A = ℕ} 0 1 = cc in absurd (omega arith)
 
-pub decimal_none : (text : List ℕ) → length text ≡ 0 → decimal_of text ≡ none
+pub decimal_none : (text : List ℕ) → length text ≡ 0 → decimal_of text ≡ None
 unfolding decimal_of presence
 decimal_none [] h = refl
 decimal_none (c ∷ s) h = absurd (omega arith)
@@ -232,7 +232,7 @@ module _ (text : List ℕ) (n i : ℕ) (r : Parsed) (more : i < length text) (st
       step ∙ ap as_parsed (bad ∙ sym (number_stop n (get_or text i 0) (drop (suc i) text) bad) ∙ ap (number_from n) (sym (drop-cons text i 0 more)) ∙ left)
 
   module _ (h : not r.is_good ≡ false) where
-    good : with_digit n (get_or text i 0) ≡ some r.value
+    good : with_digit n (get_or text i 0) ≡ Some r.value
     good = parsed_good (with_digit n (get_or text i 0)) r step h
 
     pub decimal_fits : r.value < 2 ^ 64
@@ -242,12 +242,12 @@ module _ (text : List ℕ) (n i : ℕ) (r : Parsed) (more : i < length text) (st
     decimal_more =
         rw add-one (sym (number_more n r.value (get_or text i 0) (drop (suc i) text) good) ∙ ap (number_from n) (sym (drop-cons text i 0 more)) ∙ left)
 
-pub decimal_all : (text : List ℕ) (n i : ℕ) (r : Parsed) → length text ≤ i → n < 2 ^ 64 → number_from n (drop i text) ≡ decimal_of text → r ≡ as_parsed (some n) → r ≡ as_parsed (decimal_of text)
+pub decimal_all : (text : List ℕ) (n i : ℕ) (r : Parsed) → length text ≤ i → n < 2 ^ 64 → number_from n (drop i text) ≡ decimal_of text → r ≡ as_parsed (Some n) → r ≡ as_parsed (decimal_of text)
 unfolding presence are_digits spells
 decimal_all text n i r end fits left e =
-    let none : drop i text ≡ [] = drop_of_length-le text {i = i} end in
-    let all : number_from n [] ≡ some n = rw (lt-ltb n (2 ^ 64) fits) in
-    e ∙ ap as_parsed (sym all ∙ ap (number_from n) (sym none) ∙ left)
+    let None : drop i text ≡ [] = drop_of_length-le text {i = i} end in
+    let all : number_from n [] ≡ Some n = rw (lt-ltb n (2 ^ 64) fits) in
+    e ∙ ap as_parsed (sym all ∙ ap (number_from n) (sym None) ∙ left)
 
 -- ---- a number in decimal is read back
 spells_last : (n c : ℕ) (s : List ℕ) → spells n (s ++ (c ∷ [])) ≡ spells n s * 10 + (c - 0x30)
@@ -285,12 +285,12 @@ tens_back (suc k) n h = go (ltb n 10) refl (λ more. tens_back k (n / 10) (omega
         → (spells 0 (pick t [] (tens k (n / 10)) ++ (digit (n % 10) ∷ [])) ≡ n) × (are_digits (pick t [] (tens k (n / 10)) ++ (digit (n % 10) ∷ [])) ≡ true)
     go true e f =
         let small = ltb-true n 10 e in (
-          spells_last 0 (digit (n % 10)) [] ∙ none ∙ rw (digit_is (n % 10) last) (omega arith),
+          spells_last 0 (digit (n % 10)) [] ∙ None ∙ rw (digit_is (n % 10) last) (omega arith),
           digits_last (digit (n % 10)) [] (digit_within (n % 10) last) nothing,
         )
       where
-        none : spells 0 [] * 10 + (digit (n % 10) - 0x30) ≡ digit (n % 10) - 0x30
-        none = unfold spells in omega arith
+        None : spells 0 [] * 10 + (digit (n % 10) - 0x30) ≡ digit (n % 10) - 0x30
+        None = unfold spells in omega arith
 
         nothing : are_digits [] ≡ true
         nothing = unfold are_digits in refl
@@ -300,7 +300,7 @@ tens_back (suc k) n h = go (ltb n 10) refl (λ more. tens_back k (n / 10) (omega
           digits_last (digit (n % 10)) (tens k (n / 10)) (digit_within (n % 10) last) back.1,
         )
 
-pub decimal_back : (n : ℕ) → n < 2 ^ 64 → decimal_of (decimal n) ≡ some n
+pub decimal_back : (n : ℕ) → n < 2 ^ 64 → decimal_of (decimal n) ≡ Some n
 unfolding decimal_of decimal presence
 decimal_back n h =
     let back = tens_back (suc n) n (omega arith) in
@@ -320,11 +320,11 @@ module _ (s : List ℕ) (width n : ℕ) (a b c : Bool) (count : n ≡ length (pa
   test : ltb 0 width && (eqb (length (pairs 8 s)) width && are_pairs 8 s) ≡ a
   test = sym (some-wide ∙ rw (asked, wide, count))
 
-  pub hex_bad : (r : Parsed) → not a ≡ true → r ≡ as_parsed none → r ≡ as_parsed (hexadecimal_of width s)
+  pub hex_bad : (r : Parsed) → not a ≡ true → r ≡ as_parsed None → r ≡ as_parsed (hexadecimal_of width s)
   unfolding hexadecimal_of presence
   hex_bad r h e = e ∙ rw (test, not-true a h)
 
-  pub hex_good : (r : Parsed) (d p : List ℕ) (v : ℕ) → not a ≡ false → d ≡ put (replicate 8 0) 0 (pairs 8 s) → p ≡ take n (drop 0 d) → v ≡ pick (leb (length p) 8) (big_endian p) 0 → r ≡ as_parsed (some v)
+  pub hex_good : (r : Parsed) (d p : List ℕ) (v : ℕ) → not a ≡ false → d ≡ put (replicate 8 0) 0 (pairs 8 s) → p ≡ take n (drop 0 d) → v ≡ pick (leb (length p) 8) (big_endian p) 0 → r ≡ as_parsed (Some v)
       → r ≡ as_parsed (hexadecimal_of width s)
   unfolding hexadecimal_of presence
   hex_good r d p v h ed ep ev e =
@@ -335,7 +335,7 @@ module _ (s : List ℕ) (width n : ℕ) (a b c : Bool) (count : n ≡ length (pa
 
 -- ---- payloads
 module _ (s : List ℕ) (room n : ℕ) (t : Bool) (count : n ≡ length (pairs room s)) (dash : (t ≡ true → s ≡ (0x2D ∷ [])) × (s ≡ (0x2D ∷ []) → t ≡ true)) where
-  pub payload_dash : (r : Filled) → t ≡ true → r ≡ as_filled (some []) → r ≡ as_filled (payload_of room s)
+  pub payload_dash : (r : Filled) → t ≡ true → r ≡ as_filled (Some []) → r ≡ as_filled (payload_of room s)
   unfolding payload_of
   payload_dash r h e = e ∙ rw (← told s (0x2D ∷ []) t dash, h)
 
@@ -343,7 +343,7 @@ module _ (s : List ℕ) (room n : ℕ) (t : Bool) (count : n ≡ length (pairs r
     pays : ltb 0 (length s) && are_pairs room s ≡ a
     pays = sym (good ∙ rw (all, count))
 
-    pub payload_bad : (r : Filled) → not a ≡ true → r ≡ as_filled none → r ≡ as_filled (payload_of room s)
+    pub payload_bad : (r : Filled) → not a ≡ true → r ≡ as_filled None → r ≡ as_filled (payload_of room s)
     unfolding payload_of presence
     payload_bad r h e = e ∙ rw (← told s (0x2D ∷ []) t dash, no-dash, pays, not-true a h)
 
@@ -352,11 +352,11 @@ module _ (s : List ℕ) (room n : ℕ) (t : Bool) (count : n ≡ length (pairs r
     payload_good r h e = e ∙ rw (← told s (0x2D ∷ []) t dash, no-dash, pays, not-false a h, count)
 
 -- where a text is a payload, that stands at the start of the output
-pub payload_there : (s d bs : List ℕ) → payload_of (length d) s ≡ some bs → take (length bs) (put d 0 (pairs (length d) s)) ≡ bs
+pub payload_there : (s d bs : List ℕ) → payload_of (length d) s ≡ Some bs → take (length bs) (put d 0 (pairs (length d) s)) ≡ bs
 unfolding payload_of presence
 payload_there s d bs e = go (same s (0x2D ∷ [])) (ltb 0 (length s) && are_pairs (length d) s) e
   where
-    go : (t u : Bool) → pick t (some []) (pick u (some (pairs (length d) s)) none) ≡ some bs → take (length bs) (put d 0 (pairs (length d) s)) ≡ bs
+    go : (t u : Bool) → pick t (Some []) (pick u (Some (pairs (length d) s)) None) ≡ Some bs → take (length bs) (put d 0 (pairs (length d) s)) ≡ bs
     go true u e = let q : [] ≡ bs = cc in rw (← q)
     go false true e = let q : pairs (length d) s ≡ bs = cc in rw (← q) (put_start d (pairs (length d) s) (length_pairs (length d) s).0)
     go false false e = let z : ◌≡◌ {A = ℕ} 0 1 = cc in absurd (omega arith)

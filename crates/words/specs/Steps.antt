@@ -1,6 +1,6 @@
 -- What a step of `decimal` answers. No promise of a public function cites this file.
 use Rattle.std.specs.Prelude.{ℕ, ◌+◌, ◌-◌, ◌*◌, ◌^◌, ◌&&◌, ltb}
-use Rattle.std.proofs.Math.Option.{Option}
+use Rattle.std.specs.Prelude.{Option}
 use Rattle.octets.specs.Octets.{presence}
 use Rattle.hex_text.specs.Hex.{within}
 

@@ -1,6 +1,6 @@
 -- Words of a line, and what they say: keys, values, numbers, payloads.
 use Rattle.std.specs.Prelude.{ℕ, suc, ◌+◌, ◌-◌, ◌*◌, ◌^◌, Bool, true, false, ◌&&◌, List, [], ◌∷◌, ◌++◌, eqb, ltb, length, take, drop}
-use Rattle.std.proofs.Math.Option.{Option, none, some}
+use Rattle.std.specs.Prelude.{Option, None, Some}
 use Rattle.slices.specs.Slices.{index_of}
 use Rattle.octets.specs.Octets.{pick, big_endian, presence}
 use Rattle.hex_text.specs.Hex.{within, pairs}
@@ -62,15 +62,15 @@ hexadecimal_of width s = presence (ltb 0 width && (eqb (length (pairs 8 s)) widt
 
 -- a number that a text has, and 0 where it has none
 unfoldable pub as_parsed : Option ℕ → Parsed
-as_parsed none = record { is_good = false; value = 0 }
-as_parsed (some n) = record { is_good = true; value = n }
+as_parsed None = record { is_good = false; value = 0 }
+as_parsed (Some n) = record { is_good = true; value = n }
 
 -- ---- payloads
 -- the payload of a text, where there is room for so many bytes: no byte for a dash; else digit pairs, at least one, and nothing else
 unfoldable pub payload_of : ℕ → List ℕ → Option (List ℕ)
-payload_of room s = pick (same s (0x2D ∷ [])) (some []) (presence (ltb 0 (length s) && are_pairs room s) (pairs room s))
+payload_of room s = pick (same s (0x2D ∷ [])) (Some []) (presence (ltb 0 (length s) && are_pairs room s) (pairs room s))
 
 -- how many bytes a payload has, and 0 where there is none
 unfoldable pub as_filled : Option (List ℕ) → Filled
-as_filled none = record { is_good = false; len = 0 }
-as_filled (some bs) = record { is_good = true; len = length bs }
+as_filled None = record { is_good = false; len = 0 }
+as_filled (Some bs) = record { is_good = true; len = length bs }

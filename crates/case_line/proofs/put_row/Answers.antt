@@ -3,7 +3,7 @@ use Prim.Native.Nat.{ℕ, ◌+◌, ◌*◌, ◌/◌, ◌<◌, ◌≤◌}
 use native.Mathlib.Omega.{arith}
 use mathlib.Core.Path.{◌≡◌}
 use mathlib.Core.List.{List, [], ◌∷◌, ◌++◌}
-use mathlib.Core.Option.{some}
+use Rattle.std.specs.Prelude.{Some}
 use lib.Dec.{eqb}
 use lib.ListN.{length, length-append}
 use Rattle.octets.specs.Octets.{if_set, put}
@@ -13,11 +13,11 @@ use Rattle.case_line.proofs.Laws.{two_puts, Puts, puts_none, puts_all, length_he
 use Rattle.case_line.proofs.put_row.Goals as goal
 
 -- an output that is too short, by the bytes alone or by the whole row
-small : (d : List ℕ) (number used : ℕ) (bs : List ℕ) → length d / 2 < length bs → Puts (some (row number used bs)) d d 0
+small : (d : List ℕ) (number used : ℕ) (bs : List ℕ) → length d / 2 < length bs → Puts (Some (row number used bs)) d d 0
 small d number used bs h = puts_none _ d (omega (arith, length_shown number used bs, length_hex_or_dash_law bs))
 
 short : (d : List ℕ) (number used l m u : ℕ) (bs : List ℕ) → l ≡ length (decimal number) → m ≡ length (decimal used) → u ≡ if_set (eqb (length bs) 0) 1
-    → length d < l + 1 + m + 1 + 2 * length bs + u + 1 → Puts (some (row number used bs)) d d 0
+    → length d < l + 1 + m + 1 + 2 * length bs + u + 1 → Puts (Some (row number used bs)) d d 0
 short d number used l m u bs el em eu h = puts_none _ d (omega (arith, length_shown number used bs, length_hex_or_dash_law bs))
 
 -- from what the calls on the way handed over
@@ -26,7 +26,7 @@ rowed : (d d1 d2 d3 : List ℕ) (number used l m u : ℕ) (bs : List ℕ) → l 
     → d1 ≡ put d 0 (decimal number ++ (0x20 ∷ []))
     → d2 ≡ put d1 (l + 1) (decimal used ++ (0x20 ∷ []))
     → d3 ≡ put d2 (l + 1 + m + 1) (hex_or_dash bs ++ (0x0A ∷ []))
-    → Puts (some (row number used bs)) d d3 (l + 1 + m + 1 + 2 * length bs + u + 1)
+    → Puts (Some (row number used bs)) d d3 (l + 1 + m + 1 + 2 * length bs + u + 1)
 rowed d d1 d2 d3 number used l m u bs el em eu h q1 q2 q3 =
     let a = decimal number ++ (0x20 ∷ []) in
     let b = decimal used ++ (0x20 ∷ []) in
@@ -37,7 +37,7 @@ rowed d d1 d2 d3 number used l m u bs el em eu h q1 q2 q3 =
     let lh = length_hex_or_dash_law bs in
     let r2 = two_puts d d1 d2 0 (l + 1) a b q1 q2 (omega arith) (omega arith) in
     let r3 = two_puts d d2 d3 0 (l + 1 + m + 1) (a ++ b) t r2 q3 (omega (arith, length-append a b)) (omega arith) in
-    puts_all (some (row number used bs)) d d3 (l + 1 + m + 1 + 2 * length bs + u + 1) (omega (arith, length_shown number used bs)) h (rw (three_parts number used bs) at r3)
+    puts_all (Some (row number used bs)) d d3 (l + 1 + m + 1 + 2 * length bs + u + 1) (omega (arith, length_shown number used bs)) h (rw (three_parts number used bs) at r3)
 
 pub returns-then-out-bs : goal.returns-then-out-bs
 returns-then-out-bs c = small _ _ _ _ c.if-out-bs.true
