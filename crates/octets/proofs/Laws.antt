@@ -7,19 +7,14 @@ use mathlib.Core.Path.{◌≡◌, refl, sym, ap, ap₂, ◌∙◌}
 use mathlib.Core.Bool.{Bool, true, false, not, ◌&&◌}
 use mathlib.Core.List.{List, [], ◌∷◌, ◌++◌, append-nil, append_assoc}
 use lib.Arith.{digits_div, digits_mod, digits_lt}
-use lib.ListN.{length, take, drop, get_or, set, length-set, length-append, length-take, length-drop, take-append-drop, replicate, length-replicate, drop_of_length-le}
+use lib.ListN.{length, take, drop, get_or, set, length-append, length-take, length-drop, take-append-drop, replicate, length-replicate, drop_of_length-le}
 use lib.Seq.{take_at, drop_at, drop-drop, length-take-le, take-set-le, set_split, append_snoc, take-length, take_all, drop-cons, take-take, take-add, take-append_seam, drop-append_seam}
 use lib.Pow.{mod-pow-add, shr-shr}
 use lib.Dec.{leb, eqb, lit<, ltb}
 use borrow.Author.Tests.{le-leb, lt-leb, lt-ltb, leb-true, leb-false, eq-eqb, eqb-false, not-true, not-false}
 use borrow.Rule.Slice.PartMut.{mid_of, put_mid}
 use Rattle.std.specs.Prelude.{Option, Some, None, IfSome, is_some}
-use Rattle.octets.specs.declared.MaybeIpv4.{MaybeIpv4}
-use Rattle.octets.specs.declared.MaybeIpv6.{MaybeIpv6}
-use Rattle.octets.specs.declared.MaybeU8.{MaybeU8}
-use Rattle.octets.specs.declared.MaybeU16.{MaybeU16}
-use Rattle.octets.specs.declared.MaybeU32.{MaybeU32}
-use Rattle.octets.specs.Octets.{pick, bit, if_set, flag_byte, Bytes, field, behind, big_endian, big_endian_bytes, bytes_if, is_number, address_of, number_of, u8_of, u16_of, u32_of, number_if, u8_meaning, u16_meaning, u32_meaning, ipv4_of, ipv6_of, presence, ipv4_meaning, ipv6_meaning, over, put}
+use Rattle.octets.specs.Octets.{pick, bit, if_set, flag_byte, Bytes, field, behind, big_endian, big_endian_bytes, bytes_if, is_number, address_of, number_of, presence, number_if, over, put}
 
 -- ---- flags
 pub if_set_le_law : (f : Bool) (n : ℕ) → if_set f n ≤ n
@@ -195,46 +190,6 @@ number_bytes (suc w) x h =
     let h' : x / 256 < 256 ^ w = (div-lt_iff_lt-mul {k = 256} (lit< tt)).1 (rw pow-suc at h) in
     behind_append 0 (big_endian_bytes w (x / 256)) (x % 256 ∷ []) ∙ rw (number_bytes w (x / 256) h') (div-add-mod' x 256)
 
--- the digits of four bytes, least significant first
-module _ (a b c d x : ℕ) (ha : a < 256) (hb : b < 256) (hc : c < 256) (e : x ≡ a + b * 256 + c * 65536 + d * 16777216) where
-  above_one : x ≡ (b + c * 256 + d * 65536) * 256 + a
-  above_one = omega arith
-
-  above_two : x ≡ (c + d * 256) * 65536 + (b * 256 + a)
-  above_two = omega arith
-
-  above_three : x ≡ d * 16777216 + (c * 65536 + b * 256 + a)
-  above_three = omega arith
-
-  digit_one : x % 256 ≡ a
-  digit_one = ap (λ (n : ℕ). n % 256) above_one ∙ digits_mod (b + c * 256 + d * 65536) ha
-
-  digit_two : x / 256 % 256 ≡ b
-  digit_two =
-      let next : b + c * 256 + d * 65536 ≡ (c + d * 256) * 256 + b = omega arith in
-      ap (λ (n : ℕ). n % 256) (ap (λ (n : ℕ). n / 256) above_one ∙ digits_div (b + c * 256 + d * 65536) ha ∙ next) ∙ digits_mod (c + d * 256) hb
-
-  digit_three : x / 65536 % 256 ≡ c
-  digit_three =
-      let small : b * 256 + a < 65536 = omega arith in
-      let next : c + d * 256 ≡ d * 256 + c = omega arith in
-      ap (λ (n : ℕ). n % 256) (ap (λ (n : ℕ). n / 65536) above_two ∙ digits_div (c + d * 256) small ∙ next) ∙ digits_mod d hc
-
-  digit_four : x / 16777216 ≡ d
-  digit_four =
-      let small : c * 65536 + b * 256 + a < 16777216 = omega arith in
-      ap (λ (n : ℕ). n / 16777216) above_three ∙ digits_div d small
-
-weights : (a b c d : ℕ) → a * 16777216 + b * 65536 + c * 256 + d ≡ ((a * 256 + b) * 256 + c) * 256 + d
-weights a b c d = omega arith
-
--- and with the bytes swapped
-pub swapped_four : (a b c d x r : ℕ) → a < 256 → b < 256 → c < 256 → x ≡ a + b * 256 + c * 65536 + d * 16777216
-    → r ≡ x % 256 * 16777216 + x / 256 % 256 * 65536 + x / 65536 % 256 * 256 + x / 16777216
-    → r ≡ ((a * 256 + b) * 256 + c) * 256 + d
-swapped_four a b c d x r ha hb hc e q =
-    q ∙ rw (digit_one a b c d x ha hb hc e, digit_two a b c d x ha hb hc e, digit_three a b c d x ha hb hc e, digit_four a b c d x ha hb hc e) (weights a b c d)
-
 -- what `number` gives of four and of eight bytes
 pub number_four : (bs : List ℕ) (x : ℕ) → length bs ≡ 4 → x ≡ ((get_or bs 0 0 * 256 + get_or bs 1 0) * 256 + get_or bs 2 0) * 256 + get_or bs 3 0 → x ≡ big_endian bs
 unfolding behind
@@ -299,11 +254,6 @@ module _ (w : ℕ) (bs : List ℕ) (t : Bool) (e : t ≡ is_number w bs) (q : t 
   pub number_is : (x : ℕ) → w ≤ 8 → x ≡ pick (leb (length bs) 8) (big_endian bs) 0 → x ≡ big_endian bs
   number_is x h p = rw (le-leb (length bs) 8 (omega (arith, few))) at p
 
-pub number_length : (g : Bool) (w x : ℕ) → length (number_if w (presence g x)) ≡ if_set g w
-unfolding number_if presence if_set
-number_length true w x = length_big_endian_bytes_law w x
-number_length false w x = refl
-
 -- a number that was read is written as it stood, where its field has its width w or none
 module _ (f : Bool) (w : ℕ) (bs : List ℕ) (b : Bytes bs) (h : 0 < w) (e : length bs ≡ if_set f w) where
   number_there : (m : ℕ) → w ≤ m → (g : Bool) → g ≡ f → length bs ≡ if_set g w → is_number m bs ≡ f
@@ -329,24 +279,6 @@ module _ (f : Bool) (w : ℕ) (bs : List ℕ) (b : Bytes bs) (h : 0 < w) (e : le
   unfolding number_of presence
   number_written m k = rw (number_there m k f refl e) number_again
 
-  -- of one of two, one that is given and one that is absent
-  means_either : {R : Type 0} (given : R → Bool) (value : R → ℕ) (x y : R) → given x ≡ true → value x ≡ big_endian bs → given y ≡ false → (t : Bool) → presence (given (pick t x y)) (value (pick t x y)) ≡ presence t (big_endian bs)
-  unfolding presence
-  means_either given value x y gx vx gy true = rw (gx, vx)
-  means_either given value x y gx vx gy false = rw gy
-
-  pub u8_bytes : w ≤ 1 → number_if w (u8_meaning (u8_of bs)) ≡ bs
-  unfolding u8_of
-  u8_bytes k = rw (number_there 1 k f refl e) (ap (number_if w) (means_either (λ (x : MaybeU8). x.given) (λ (x : MaybeU8). x.value) _ _ refl refl refl f) ∙ number_back f refl e)
-
-  pub u16_bytes : w ≤ 2 → number_if w (u16_meaning (u16_of bs)) ≡ bs
-  unfolding u16_of
-  u16_bytes k = rw (number_there 2 k f refl e) (ap (number_if w) (means_either (λ (x : MaybeU16). x.given) (λ (x : MaybeU16). x.value) _ _ refl refl refl f) ∙ number_back f refl e)
-
-  pub u32_bytes : w ≤ 4 → number_if w (u32_meaning (u32_of bs)) ≡ bs
-  unfolding u32_of
-  u32_bytes k = rw (number_there 4 k f refl e) (ap (number_if w) (means_either (λ (x : MaybeU32). x.given) (λ (x : MaybeU32). x.value) _ _ refl refl refl f) ∙ number_back f refl e)
-
 -- how long a number is that may be absent
 pub length_number_if : (w : ℕ) (o : Option ℕ) → length (number_if w o) ≡ if_set (is_some o) w
 unfolding number_if if_set
@@ -359,11 +291,6 @@ pub length_bytes_if : (n : ℕ) (o : Option (List ℕ)) → IfSome o (λ bs. len
 unfolding bytes_if if_set
 length_bytes_if n (Some bs) e = e
 length_bytes_if n None e = refl
-
-pub given_length : (g : Bool) (n : ℕ) (bs : List ℕ) → length bs ≡ n → length (bytes_if (presence g bs)) ≡ if_set g n
-unfolding bytes_if if_set presence
-given_length true n bs e = e
-given_length false n bs e = refl
 
 -- an address that was read is written as it stood, where its field has its width or none
 module _ (f : Bool) (bs : List ℕ) where
@@ -386,32 +313,10 @@ module _ (f : Bool) (bs : List ℕ) where
       go true q = refl
       go false q = some_or_none n e false q
 
-  bytes_either : {R : Type 0} (given : R → Bool) (octets : R → List ℕ) (x y : R) (n : ℕ) → given x ≡ true → octets x ≡ bs → given y ≡ false → length bs ≡ if_set f (suc n) → (t : Bool) → eqb (length bs) (suc n) ≡ t
-      → bytes_if (presence (given (pick t x y)) (octets (pick t x y))) ≡ bs
-  unfolding presence bytes_if
-  bytes_either given octets x y n gx ox gy e true q = rw (gx, ox)
-  bytes_either given octets x y n gx ox gy e false q = rw gy (some_or_none n e false q)
-
-  pub ipv4_bytes : length bs ≡ if_set f 4 → bytes_if (ipv4_meaning (ipv4_of bs)) ≡ bs
-  unfolding ipv4_of
-  ipv4_bytes e = bytes_either (λ (x : MaybeIpv4). x.given) (λ (x : MaybeIpv4). x.octets) _ _ 3 refl refl refl e (eqb (length bs) 4) refl
-
-  pub ipv6_bytes : length bs ≡ if_set f 16 → bytes_if (ipv6_meaning (ipv6_of bs)) ≡ bs
-  unfolding ipv6_of
-  ipv6_bytes e = bytes_either (λ (x : MaybeIpv6). x.given) (λ (x : MaybeIpv6). x.octets) _ _ 15 refl refl refl e (eqb (length bs) 16) refl
-
 -- the bytes of an address that is there
 pub address_there : (n : ℕ) (bs : List ℕ) → length bs ≡ n → address_of n bs ≡ Some bs
 unfolding address_of
 address_there n bs e = rw (eq-eqb (length bs) n e)
-
-pub ipv4_octets : (bs : List ℕ) → length bs ≡ 4 → (ipv4_of bs).octets ≡ bs
-unfolding ipv4_of
-ipv4_octets bs e = rw (eq-eqb (length bs) 4 e)
-
-pub ipv6_octets : (bs : List ℕ) → length bs ≡ 16 → (ipv6_of bs).octets ≡ bs
-unfolding ipv6_of
-ipv6_octets bs e = rw (eq-eqb (length bs) 16 e)
 
 -- ---- outputs
 pub length_over : (d : List ℕ) (at : ℕ) (bs : List ℕ) → at + length bs ≤ length d → length (over d at bs) ≡ length d
@@ -510,19 +415,6 @@ put_nil d at = either (leb (at + 0) (length d))
     either true = over_nil d at
     either false = refl
 
--- a field that is put where it is given: by its flag and by the room
-module _ (d : List ℕ) (at : ℕ) (g : Bool) (bs : List ℕ) where
-  pub put_absent : not g ≡ true → d ≡ put d at (bytes_if (presence g bs))
-  unfolding presence bytes_if
-  put_absent h = rw (not-true g h) (sym (put_nil d at))
-
-  pub put_there : (e : List ℕ) → not g ≡ false → e ≡ put d at bs → e ≡ put d at (bytes_if (presence g bs))
-  unfolding presence bytes_if
-  put_there e h q = rw (not-false g h) q
-
-  pub put_no_room : not g ≡ false → length d < at + length bs → d ≡ put d at (bytes_if (presence g bs))
-  put_no_room h q = put_there d h (sym (put_not d at bs q))
-
 -- one store is one byte put
 pub put_set : (d : List ℕ) (at b : ℕ) → at < length d → set d at b ≡ put d at (b ∷ [])
 put_set d at b h =
@@ -546,63 +438,6 @@ module _ (n room : ℕ) (t : Bool) (e : t ≡ leb n room) where
 
   pub room_lacks : not t ≡ true → room < n
   room_lacks h = leb-false n room (sym e ∙ not-true t h)
-
--- four stores, one behind the other, are one put of the four bytes
-pub four_stored : (d : List ℕ) (at a b c e : ℕ) → at + 4 ≤ length d → set (set (set (set d at a) (at + 1) b) (at + 2) c) (at + 3) e ≡ put d at (a ∷ b ∷ c ∷ e ∷ [])
-four_stored d at a b c e h =
-    let one = length-set d at a in
-    let two = length-set (set d at a) (at + 1) b in
-    let three = length-set (set (set d at a) (at + 1) b) (at + 2) c in
-    put_row (then (a ∷ []) (at + 1) (put_set d at a (omega arith)) refl
-    (then (b ∷ []) (at + 2) (put_set (set d at a) (at + 1) b (omega arith)) (omega arith)
-    (then (c ∷ []) (at + 3) (put_set (set (set d at a) (at + 1) b) (at + 2) c (omega arith)) (omega arith)
-    (ends (put_set (set (set (set d at a) (at + 1) b) (at + 2) c) (at + 3) e (omega arith)))))) h
-
--- what is stored of an address, four bytes at a time, is all of it
-module _ (bs : List ℕ) where
-  abbrev four_from : ℕ → List ℕ
-  four_from k = get_or bs k 0 ∷ get_or bs (k + 1) 0 ∷ get_or bs (k + 2) 0 ∷ get_or bs (k + 3) 0 ∷ []
-
-  four_of : (k : ℕ) → k + 4 ≤ length bs → field bs k 4 ≡ four_from k
-  four_of k h =
-      rw (
-        next k (k + 1) refl (omega arith),
-        next (k + 1) (k + 2) (omega arith) (omega arith),
-        next (k + 2) (k + 3) (omega arith) (omega arith),
-        next (k + 3) (k + 4) (omega arith) (omega arith),
-      )
-    where
-      next : (i j : ℕ) → j ≡ i + 1 → i < length bs → drop i bs ≡ get_or bs i 0 ∷ drop j bs
-      next i j e g = rw (e, add-one i) (drop-cons bs i 0 g)
-
-  four_more : (k n : ℕ) → k + 4 ≤ length bs → four_from k ++ field bs (k + 4) n ≡ field bs k (4 + n)
-  four_more k n h = ap (λ (l : List ℕ). l ++ field bs (k + 4) n) (sym (four_of k h)) ∙ sym (field_split k 4 n bs)
-
-  four_whole : length bs ≡ 4 → four_from 0 ≡ bs
-  four_whole e = sym (four_of 0 (omega arith)) ∙ take_all 4 bs (omega arith)
-
-  sixteen_whole : length bs ≡ 16 → four_from 0 ++ (four_from 4 ++ (four_from 8 ++ four_from 12)) ≡ bs
-  sixteen_whole e =
-      ap (λ (l : List ℕ). four_from 0 ++ (four_from 4 ++ (four_from 8 ++ l))) (sym (four_of 12 (omega arith)))
-      ∙ ap (λ (l : List ℕ). four_from 0 ++ (four_from 4 ++ l)) (four_more 8 4 (omega arith))
-      ∙ ap (λ (l : List ℕ). four_from 0 ++ l) (four_more 4 8 (omega arith))
-      ∙ four_more 0 12 (omega arith)
-      ∙ take_all 16 bs (omega arith)
-
-  -- so that what the stores leave is a put of the address
-  module _ (d : List ℕ) (at : ℕ) where
-    pub four_put : (e : List ℕ) → length bs ≡ 4 → e ≡ put d at (four_from 0) → e ≡ put d at bs
-    four_put e l q = q ∙ ap (put d at) (four_whole l)
-
-    pub sixteen_put : (d1 d2 d3 d4 : List ℕ) → length bs ≡ 16 → at + 16 ≤ length d
-        → d1 ≡ put d at (four_from 0)
-        → d2 ≡ put d1 (at + 4) (four_from 4)
-        → d3 ≡ put d2 (at + 8) (four_from 8)
-        → d4 ≡ put d3 (at + 12) (four_from 12)
-        → d4 ≡ put d at bs
-    sixteen_put d1 d2 d3 d4 l h q1 q2 q3 q4 =
-        put_row (then (four_from 0) (at + 4) q1 refl (then (four_from 4) (at + 8) q2 (omega arith) (then (four_from 8) (at + 12) q3 (omega arith) (ends q4)))) h
-        ∙ ap (put d at) (sixteen_whole l)
 
 -- zeros from a place on, up to another: one more is stored, they fit where the second is within the output, and don't where it isn't
 pub zeros_step : (d : List ℕ) (i e : ℕ) → i < e → e ≤ length d → over (set d i 0) (i + 1) (replicate (e - (i + 1)) 0) ≡ over d i (replicate (e - i) 0)

@@ -1,11 +1,6 @@
 -- Bytes as flags, numbers and addresses, and bytes put into an output.
-use Rattle.std.specs.Prelude.{ℕ, zero, suc, ◌+◌, ◌*◌, ◌/◌, ◌%◌, ◌^◌, ◌<◌, List, [], ◌∷◌, ◌++◌, Bool, true, false, ◌&&◌, length, take, drop, replicate, leb, ltb, eqb}
+use Rattle.std.specs.Prelude.{ℕ, zero, suc, ◌+◌, ◌*◌, ◌/◌, ◌%◌, ◌^◌, ◌<◌, List, [], ◌∷◌, ◌++◌, Bool, true, false, ◌&&◌, length, take, drop, leb, ltb, eqb}
 use Rattle.std.specs.Prelude.{Option, None, Some}
-use Rattle.octets.specs.declared.MaybeIpv4.{MaybeIpv4}
-use Rattle.octets.specs.declared.MaybeIpv6.{MaybeIpv6}
-use Rattle.octets.specs.declared.MaybeU8.{MaybeU8}
-use Rattle.octets.specs.declared.MaybeU16.{MaybeU16}
-use Rattle.octets.specs.declared.MaybeU32.{MaybeU32}
 
 -- one of two, by a test
 abbrev pub pick {ℓ} : {A : Type ℓ} → Bool → A → A → A
@@ -48,51 +43,20 @@ unfoldable pub big_endian_bytes : ℕ → ℕ → List ℕ
 big_endian_bytes zero x = []
 big_endian_bytes (suc w) x = big_endian_bytes w (x / 256) ++ (x % 256 ∷ [])
 
--- the address of just these bytes, absent (and zero) where they are another number of bytes
-unfoldable pub ipv4_of : List ℕ → MaybeIpv4
-ipv4_of bs = pick (eqb (length bs) 4) (record { given = true; octets = bs }) (record { given = false; octets = replicate 4 0 })
-
-unfoldable pub ipv6_of : List ℕ → MaybeIpv6
-ipv6_of bs = pick (eqb (length bs) 16) (record { given = true; octets = bs }) (record { given = false; octets = replicate 16 0 })
-
 -- the n bytes of an address, absent where they are another number of bytes
 unfoldable pub address_of : ℕ → List ℕ → Option (List ℕ)
 address_of n bs = pick (eqb (length bs) n) (Some bs) None
 
--- what a field beside a flag means: what stands in an absent one doesn't count
+-- a value under a flag
 unfoldable pub presence : {A : Type 0} → Bool → A → Option A
 presence given x = pick given (Some x) None
 
-abbrev pub ipv4_meaning : MaybeIpv4 → Option (List ℕ)
-ipv4_meaning a = presence a.given a.octets
-
-abbrev pub ipv6_meaning : MaybeIpv6 → Option (List ℕ)
-ipv6_meaning a = presence a.given a.octets
-
--- the number of these bytes, where there are one to w of them; absent (and 0) otherwise
+-- the number of these bytes, where there are one to w of them
 abbrev pub is_number : ℕ → List ℕ → Bool
 is_number w bs = ltb 0 (length bs) && leb (length bs) w
 
 unfoldable pub number_of : ℕ → List ℕ → Option ℕ
 number_of w bs = pick (is_number w bs) (Some (big_endian bs)) None
-
-unfoldable pub u8_of : List ℕ → MaybeU8
-u8_of bs = pick (is_number 1 bs) (record { given = true; value = big_endian bs }) (record { given = false; value = 0 })
-
-unfoldable pub u16_of : List ℕ → MaybeU16
-u16_of bs = pick (is_number 2 bs) (record { given = true; value = big_endian bs }) (record { given = false; value = 0 })
-
-unfoldable pub u32_of : List ℕ → MaybeU32
-u32_of bs = pick (is_number 4 bs) (record { given = true; value = big_endian bs }) (record { given = false; value = 0 })
-
-abbrev pub u8_meaning : MaybeU8 → Option ℕ
-u8_meaning a = presence a.given a.value
-
-abbrev pub u16_meaning : MaybeU16 → Option ℕ
-u16_meaning a = presence a.given a.value
-
-abbrev pub u32_meaning : MaybeU32 → Option ℕ
-u32_meaning a = presence a.given a.value
 
 -- the bytes of a field that may be absent
 unfoldable pub bytes_if : Option (List ℕ) → List ℕ

@@ -1,6 +1,5 @@
 -- `octets::number_of` meets its contract: by the width, and by whether the bytes make a number.
-use native.Mathlib.Omega.{arith}
-use mathlib.Core.Path.{sym, ap}
+use mathlib.Core.Path.{ap}
 use borrow.Author.Tests.{le-leb}
 use Rattle.std.specs.Prelude.{Some}
 use Rattle.octets.specs.Octets.{number_of}

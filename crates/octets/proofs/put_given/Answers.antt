@@ -1,13 +1,13 @@
--- `octets::put_given` meets its contract: by whether the field is given.
+-- `octets::put_given` meets its contract: by whether there are bytes.
 use mathlib.Core.Path.{sym}
-use Rattle.octets.specs.Octets.{presence, bytes_if}
+use Rattle.octets.specs.Octets.{bytes_if}
 use Rattle.octets.proofs.Laws.{put_nil}
 use Rattle.octets.proofs.put_given.Goals as goal
 
-pub returns-then-given : goal.returns-then-given
-unfolding presence bytes_if
-returns-then-given c = rw c.if-given.true c.put_bytes.ensures
+pub returns-in-Some : goal.returns-in-Some
+unfolding bytes_if
+returns-in-Some c = rw c.in-Some.is c.put_bytes.ensures
 
-pub returns-else-given : goal.returns-else-given
-unfolding presence bytes_if
-returns-else-given c = rw c.if-given.false (sym (put_nil _ _))
+pub returns-in_default : goal.returns-in_default
+unfolding bytes_if
+returns-in_default c = rw c.in_default.is (sym (put_nil _ _))

@@ -1,11 +1,7 @@
-use Prim.Native.Nat.{◌≤◌}
-use mathlib.Core.Path.{◌≡◌}
-use lib.ListN.{length}
+-- What is left to write, written now, gives the same output as writing all at first.
+use Rattle.std.proofs.Common.{◌≡◌}
 use Rattle.octets.specs.Octets.{big_endian_bytes, over}
 use Rattle.octets.proofs.put_number.Given as goal
 
-abbrev pub invariant-loop-left : goal.invariant-loop-left
-invariant-loop-left l = (l.left ≤ l.w) × (length l.out ≡ length l.initial.out) × (over l.out l.at (big_endian_bytes l.left l.rest) ≡ over l.initial.out l.at (big_endian_bytes l.w l.x))
-
-abbrev pub decreases-loop-left : goal.decreases-loop-left
-decreases-loop-left l = l.left
+abbrev pub invariant-loop-i : goal.invariant-loop-i
+invariant-loop-i l = over l.out l.at (big_endian_bytes l.i l.rest) ≡ over l.initial.out l.at (big_endian_bytes l.w l.x)

@@ -1,9 +1,9 @@
--- `octets::put_zeros` meets its contract. The invariant: the zeros that are left, put now, give the same output as putting all at first.
+-- `octets::put_zeros` meets its contract.
 use Prim.Native.Nat.{ℕ, ◌-◌, ◌≤◌}
 use mathlib.Core.Path.{◌≡◌, refl, sym, ap, ◌∙◌}
 use mathlib.Core.List.{List}
 use native.Mathlib.Omega.{arith}
-use lib.ListN.{length, replicate, length-set}
+use lib.ListN.{length, replicate}
 use Rattle.octets.specs.Octets.{over, put}
 use Rattle.octets.proofs.Laws.{over_nil, zeros_step, zeros_all, zeros_not}
 use Rattle.octets.proofs.put_zeros.Goals as goal
@@ -16,22 +16,10 @@ pub returns-then-out-end : goal.returns-then-out-end
 returns-then-out-end c = zeros_not _ _ _ c.if-out-end.true
 
 pub loop-i-init : goal.loop-i-init
-loop-i-init c = (refl, refl)
-
-pub bounds-out-i : goal.bounds-out-i
-bounds-out-i c = omega arith
-
-pub overflow_add-i : goal.overflow_add-i
-overflow_add-i c = omega arith
-
-pub loop-i-smaller : goal.loop-i-smaller
-loop-i-smaller c = omega arith
+loop-i-init c = refl
 
 pub loop-i-preserved : goal.loop-i-preserved
-loop-i-preserved c = (simp length-set c.loop-i.invariant.0, zeros_step _ _ _ (omega arith) (omega arith) ∙ c.loop-i.invariant.1)
-
-pub shape_of-out : goal.shape_of-out
-shape_of-out c = c.loop-i.invariant.0
+loop-i-preserved c = zeros_step _ _ _ (omega arith) (omega arith) ∙ c.loop-i.invariant
 
 pub returns : goal.returns
-returns c = all_zeros c.args.end _ _ _ _ (omega arith) (omega arith) c.loop-i.invariant.1
+returns c = all_zeros c.args.end _ _ _ _ (omega arith) (omega arith) c.loop-i.invariant
