@@ -8,12 +8,12 @@ use mathlib.Core.List.{List, [], ◌∷◌, ◌++◌, flatten, append-nil}
 use lib.Dec.{leb, eqb}
 use lib.ListN.{length, take, drop, get_or, length-append, length-drop, drop_of_length-le}
 use lib.Seq.{take_all, take-length, drop-drop, get_or-drop}
-use borrow.Author.Tests.{le-leb, leb-true, leb-false, ne_eqb}
+use borrow.Author.Tests.{le-leb, leb-true, leb-false}
 use Rattle.slices.specs.Slices.{slice, index_after, index_of}
 use Rattle.octets.specs.Octets.{pick, field, big_endian, big_endian_bytes, over, put}
 use Rattle.octets.proofs.Laws.{length_big_endian_bytes_law, number_field, put_fits, put_nil, put_put, put_behind, length_put}
 use Rattle.hex_text.specs.Hex.{spelled}
-use Rattle.rows.specs.Values.{ipv4_value, ipv6_value}
+use Rattle.rows.specs.Values.{ipv6_value}
 use Rattle.rows.specs.declared.Value.{Value}
 use Rattle.rows.specs.declared.Value.TheVariants.{Nothing, Hex}
 use Rattle.rows.specs.Row.{quoted, length_of, listed, bracketed, shown, led, pieces, numbered, past, ends, puts}

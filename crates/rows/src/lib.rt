@@ -74,14 +74,14 @@ pub fn integer(x: i32) -> Value
 pub fn number(width: usize, x: Option<u64>) -> Value
     ensures { result ≡ given (hex_value width) x }
 {
-    match x {
-        None => Value::Absent,
-        Some(low) => Value::Hex {
+    x.map_or(
+        Value::Absent,
+        |low| Value::Hex {
             width,
             high: 0,
             low,
         },
-    }
+    )
 }
 
 pub fn ipv4(address: Option<[u8; 4]>) -> Value
@@ -110,20 +110,20 @@ pub fn ipv6(address: Option<[u8; 16]>) -> Value
 pub fn front(len: Option<usize>) -> Value
     ensures { result ≡ given (Part 0) len }
 {
-    match len {
-        None => Value::Absent,
-        Some(len) => Value::Part { place: 0, len },
-    }
+    len.map_or(Value::Absent, |len| Value::Part { place: 0, len })
 }
 
 // A text of that slice, where there is one.
 pub fn text(text: Option<Text>) -> Value
     ensures { result ≡ given (λ t. Quoted t.place t.len) text }
 {
-    match text {
-        None => Value::Absent,
-        Some(Text { place, len }) => Value::Quoted { place, len },
-    }
+    text.map_or(
+        Value::Absent,
+        |text| Value::Quoted {
+            place: text.place,
+            len: text.len,
+        },
+    )
 }
 
 // So many texts, each behind its length, from a place of that slice on.
