@@ -80,6 +80,6 @@ pub(crate) fn put_pfd_contents_payload(
 
 // Puts what was used and is written, up to the bar before the fields.
 fn put_written(out: &mut [u8], at: usize, used: usize, wire: &[u8]) -> usize {
-    let values = [rows::count(used), rows::front(true, wire.len())];
+    let values = [rows::count(used), rows::front(Some(wire.len()))];
     rows::put(out, at, b"0 # # | ", &values, wire)
 }

@@ -3,9 +3,8 @@ use crate::keys;
 use crate::seen::{Seen, V6_LOW, Values};
 use f_teid::Fteid;
 use fseid::Fseid;
-use octets::{MaybeIpv4, MaybeIpv6, MaybeU8, MaybeU16, MaybeU32};
 use outer_header_creation::{OuterHeaderCreation, OuterHeaderCreationFlags};
-use types::{MaybeTeid, Seid, Teid};
+use types::{Seid, Teid};
 use ue_ip_address::UeIpAddress;
 
 pub(crate) fn to_u8(x: usize) -> u8 {
@@ -37,34 +36,22 @@ pub(crate) fn to_ipv6(high: usize, low: usize) -> [u8; 16] {
     octets
 }
 
-fn ipv4_of(seen: Seen, values: &Values) -> MaybeIpv4 {
+fn ipv4_of(seen: Seen, values: &Values) -> Option<[u8; 4]> {
     let octets = to_ipv4(values[keys::V4]);
-    MaybeIpv4 {
-        given: seen.has(keys::V4),
-        octets,
-    }
+    seen.has(keys::V4).then_some(octets)
 }
 
-fn ipv6_of(seen: Seen, values: &Values) -> MaybeIpv6 {
+fn ipv6_of(seen: Seen, values: &Values) -> Option<[u8; 16]> {
     let octets = to_ipv6(values[keys::V6], values[V6_LOW]);
-    MaybeIpv6 {
-        given: seen.has(keys::V6),
-        octets,
-    }
+    seen.has(keys::V6).then_some(octets)
 }
 
-fn u8_of(given: bool, x: usize) -> MaybeU8 {
-    MaybeU8 {
-        given,
-        value: to_u8(x),
+// The number of a key, where the line has that.
+fn number_of(seen: Seen, values: &Values, key: usize) -> Option<usize> {
+    if !seen.has(key) {
+        return None;
     }
-}
-
-fn u32_of(given: bool, x: usize) -> MaybeU32 {
-    MaybeU32 {
-        given,
-        value: to_u32(x),
-    }
+    values.get(key).copied()
 }
 
 pub(crate) fn ue_ip_address(call: usize, seen: Seen, values: &Values) -> UeIpAddress {
@@ -85,8 +72,8 @@ pub(crate) fn ue_ip_address(call: usize, seen: Seen, values: &Values) -> UeIpAdd
                 ipv6_prefix_length_present: octets::bit(flags, 6),
                 ipv4_address,
                 ipv6_address,
-                ipv6_prefix_delegation_bits: u8_of(seen.has(keys::DB), values[keys::DB]),
-                ipv6_prefix_length: u8_of(seen.has(keys::PL), values[keys::PL]),
+                ipv6_prefix_delegation_bits: number_of(seen, values, keys::DB).map(to_u8),
+                ipv6_prefix_length: number_of(seen, values, keys::PL).map(to_u8),
             }
         }
     }
@@ -111,11 +98,11 @@ pub(crate) fn fseid(call: usize, seen: Seen, values: &Values) -> Fseid {
 
 pub(crate) fn f_teid(call: usize, seen: Seen, values: &Values) -> Fteid {
     let teid = to_teid(values[keys::TEID]);
+    if 5 < call {
+        return short_f_teid(call, teid, values);
+    }
     let ipv4_address = ipv4_of(seen, values);
     let ipv6_address = ipv6_of(seen, values);
-    if 5 < call {
-        return short_f_teid(call, teid, ipv4_address, ipv6_address);
-    }
     let flags = to_u8(values[keys::FLAGS]);
     let choose_id = to_u8(values[keys::CID]);
     let v4 = octets::bit(flags, 0);
@@ -147,14 +134,9 @@ pub(crate) fn f_teid(call: usize, seen: Seen, values: &Values) -> Fteid {
     }
 }
 
-fn short_f_teid(
-    call: usize,
-    teid: Teid,
-    ipv4_address: MaybeIpv4,
-    ipv6_address: MaybeIpv6,
-) -> Fteid {
-    let ipv4 = ipv4_address.octets;
-    let ipv6 = ipv6_address.octets;
+fn short_f_teid(call: usize, teid: Teid, values: &Values) -> Fteid {
+    let ipv4 = to_ipv4(values[keys::V4]);
+    let ipv6 = to_ipv6(values[keys::V6], values[V6_LOW]);
     match call {
         6 => Fteid::ipv4(teid, ipv4),
         7 => Fteid::ipv6(teid, ipv6),
@@ -176,25 +158,25 @@ fn flag_set(call: usize) -> OuterHeaderCreationFlags {
     }
 }
 
-fn with_ctag(record: OuterHeaderCreation, tag: MaybeU32) -> OuterHeaderCreation {
-    if !tag.given {
-        return record;
+fn with_ctag(record: OuterHeaderCreation, tag: Option<u32>) -> OuterHeaderCreation {
+    match tag {
+        Some(tag) => record.with_ctag(tag),
+        None => record,
     }
-    record.with_ctag(tag.value)
 }
 
-fn with_stag(record: OuterHeaderCreation, tag: MaybeU32) -> OuterHeaderCreation {
-    if !tag.given {
-        return record;
+fn with_stag(record: OuterHeaderCreation, tag: Option<u32>) -> OuterHeaderCreation {
+    match tag {
+        Some(tag) => record.with_stag(tag),
+        None => record,
     }
-    record.with_stag(tag.value)
 }
 
 // A record with the tags of its line, in the order of the line.
 fn with_tags(
     record: OuterHeaderCreation,
-    ctag: MaybeU32,
-    stag: MaybeU32,
+    ctag: Option<u32>,
+    stag: Option<u32>,
     stag_first: bool,
 ) -> OuterHeaderCreation {
     if stag_first {
@@ -222,8 +204,8 @@ pub(crate) fn outer_header_creation(
     seen: Seen,
     values: &Values,
 ) -> OuterHeaderCreation {
-    let ctag = u32_of(seen.has(keys::CTAG), values[keys::CTAG]);
-    let stag = u32_of(seen.has(keys::STAG), values[keys::STAG]);
+    let ctag = number_of(seen, values, keys::CTAG).map(to_u32);
+    let stag = number_of(seen, values, keys::STAG).map(to_u32);
     if call != 21 {
         return with_tags(constructed(call, values), ctag, stag, seen.stag_first);
     }
@@ -231,16 +213,10 @@ pub(crate) fn outer_header_creation(
     let ipv6_address = ipv6_of(seen, values);
     OuterHeaderCreation {
         description: OuterHeaderCreationFlags::of(to_u8(values[keys::FLAGS])),
-        teid: MaybeTeid {
-            given: seen.has(keys::TEID),
-            value: to_teid(values[keys::TEID]),
-        },
+        teid: number_of(seen, values, keys::TEID).map(to_teid),
         ipv4_address,
         ipv6_address,
-        port_number: MaybeU16 {
-            given: seen.has(keys::PORT),
-            value: to_u16(values[keys::PORT]),
-        },
+        port_number: number_of(seen, values, keys::PORT).map(to_u16),
         ctag,
         stag,
     }

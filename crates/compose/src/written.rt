@@ -45,7 +45,7 @@ fn put(
     let row = [
         rows::count(number as usize),
         rows::count(if number == 0 { written.len } else { values.0 }),
-        rows::front(both(number == 0, !is_brief), written.len),
+        rows::front(both(number == 0, !is_brief).then_some(written.len)),
     ];
     if has_fields(number, is_raw) {
         return Begun {

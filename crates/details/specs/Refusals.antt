@@ -3,16 +3,18 @@ use Rattle.std.specs.Prelude.{ℕ, ◌%◌, ◌||◌, List, [], ◌∷◌, ◌++
 use Rattle.answer.specs.declared.Answer.{Answer}
 use Rattle.answer.specs.Paper.{number_of, values_of}
 use Rattle.octets.specs.Octets.{pick}
-use Rattle.rows.specs.Values.{count_value, hex_value}
+use Rattle.rows.specs.declared.Value.{Value}
+use Rattle.rows.specs.declared.Value.TheVariants.{Count}
+use Rattle.rows.specs.Values.{hex_value}
 use Rattle.rows.specs.Row.{pieces, numbered}
 use Rattle.details.specs.Ascii.{ascii}
 
 -- flags and a type are bytes
-abbrev pub first_value : ℕ → ℕ → List ℕ
-first_value number x = pick (eqb number 2 || eqb number 3) (hex_value 1 0 (x % 256)) (count_value x)
+abbrev pub first_value : ℕ → ℕ → Value
+first_value number x = pick (eqb number 2 || eqb number 3) (hex_value 1 (x % 256)) (Count x)
 
-abbrev pub unread_values : Answer → List (List ℕ)
-unread_values a = first_value (number_of a) (values_of a).0 ∷ count_value (values_of a).1 ∷ count_value (values_of a).2 ∷ []
+abbrev pub unread_values : Answer → List Value
+unread_values a = first_value (number_of a) (values_of a).0 ∷ Count (values_of a).1 ∷ Count (values_of a).2 ∷ []
 
 -- the words of payloads that are refused, by the number of the answer: a reader gives the first five
 unfoldable pub unread_words : List ℕ
@@ -30,4 +32,4 @@ unread_row a = pieces (numbered (number_of a) unread_words) (unread_values a) []
 
 -- the row of a record that can't be made or written: the refusal's number and its first value
 unfoldable pub unmade_row : Answer → List (List ℕ)
-unmade_row a = pieces (ascii "# # -\n") (count_value (number_of a) ∷ count_value (values_of a).0 ∷ []) []
+unmade_row a = pieces (ascii "# # -\n") (Count (number_of a) ∷ Count (values_of a).0 ∷ []) []

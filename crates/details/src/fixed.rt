@@ -26,11 +26,9 @@ pub const HEADER: [u8; 67] =
 pub fn ue_ip_address(record: UeIpAddress, count: usize, len: usize) -> [Value; 13]
     ensures { result ≡ ue_ip_address_values «record» count len }
 {
-    let bits = record.ipv6_prefix_delegation_bits;
-    let prefix = record.ipv6_prefix_length;
     [
         rows::count(count),
-        rows::front(true, len),
+        rows::front(Some(len)),
         rows::flag(record.v6),
         rows::flag(record.v4),
         rows::flag(record.source_destination),
@@ -40,8 +38,8 @@ pub fn ue_ip_address(record: UeIpAddress, count: usize, len: usize) -> [Value; 1
         rows::flag(record.ipv6_prefix_length_present),
         rows::ipv4(record.ipv4_address),
         rows::ipv6(record.ipv6_address),
-        rows::number8(bits.given, bits.value),
-        rows::number8(prefix.given, prefix.value),
+        rows::number(1, record.ipv6_prefix_delegation_bits.map(u64::from)),
+        rows::number(1, record.ipv6_prefix_length.map(u64::from)),
     ]
 }
 
@@ -50,15 +48,15 @@ pub fn f_teid(record: Fteid, count: usize, len: usize) -> [Value; 10]
 {
     [
         rows::count(count),
-        rows::front(true, len),
+        rows::front(Some(len)),
         rows::flag(record.v4),
         rows::flag(record.v6),
         rows::flag(record.ch),
         rows::flag(record.chid),
-        rows::number32(true, record.teid.value()),
+        rows::number(4, Some(record.teid.value() as u64)),
         rows::ipv4(record.ipv4_address),
         rows::ipv6(record.ipv6_address),
-        rows::number8(true, record.choose_id),
+        rows::number(1, Some(record.choose_id as u64)),
     ]
 }
 
@@ -67,10 +65,10 @@ pub fn fseid(record: Fseid, count: usize, len: usize) -> [Value; 7]
 {
     [
         rows::count(count),
-        rows::front(true, len),
+        rows::front(Some(len)),
         rows::flag(record.v6),
         rows::flag(record.v4),
-        rows::number64(record.seid.value()),
+        rows::number(8, Some(record.seid.value())),
         rows::ipv4(record.ipv4_address),
         rows::ipv6(record.ipv6_address),
     ]
@@ -79,20 +77,16 @@ pub fn fseid(record: Fseid, count: usize, len: usize) -> [Value; 7]
 pub fn outer_header_creation(record: OuterHeaderCreation, count: usize, len: usize) -> [Value; 9]
     ensures { result ≡ outer_header_creation_values «record» count len }
 {
-    let teid = record.teid;
-    let port = record.port_number;
-    let ctag = record.ctag;
-    let stag = record.stag;
     [
         rows::count(count),
-        rows::front(true, len),
-        rows::number8(true, record.description.byte()),
-        rows::number32(teid.given, teid.value.value()),
+        rows::front(Some(len)),
+        rows::number(1, Some(record.description.byte() as u64)),
+        rows::number(4, record.teid.map(|teid| teid.value() as u64)),
         rows::ipv4(record.ipv4_address),
         rows::ipv6(record.ipv6_address),
-        rows::number16(port.given, port.value),
-        rows::number32(ctag.given, ctag.value),
-        rows::number32(stag.given, stag.value),
+        rows::number(2, record.port_number.map(u64::from)),
+        rows::number(4, record.ctag.map(u64::from)),
+        rows::number(4, record.stag.map(u64::from)),
     ]
 }
 
@@ -101,15 +95,15 @@ pub fn header(record: Header, count: usize, len: usize) -> [Value; 11]
 {
     [
         rows::count(count),
-        rows::front(true, len),
-        rows::number8(true, record.version),
+        rows::front(Some(len)),
+        rows::number(1, Some(record.version as u64)),
         rows::flag(record.has_fo),
         rows::flag(record.has_mp),
         rows::flag(record.has_seid),
-        rows::number8(true, record.message_type),
-        rows::number16(true, record.length),
-        rows::number64(record.seid.value()),
-        rows::number32(true, record.sequence_number.value()),
-        rows::number8(true, record.message_priority),
+        rows::number(1, Some(record.message_type as u64)),
+        rows::number(2, Some(record.length as u64)),
+        rows::number(8, Some(record.seid.value())),
+        rows::number(4, Some(record.sequence_number.value() as u64)),
+        rows::number(1, Some(record.message_priority as u64)),
     ]
 }

@@ -16,7 +16,7 @@ fn first_value(number: u8, x: usize) -> Value
     ensures { result ≡ first_value number x }
 {
     if either(number == 2, number == 3) {
-        return rows::number8(true, (x % 256) as u8);
+        return rows::number(1, Some((x % 256) as u64));
     }
     rows::count(x)
 }

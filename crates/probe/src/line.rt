@@ -141,7 +141,7 @@ fn put_outer_header_creation(out: &mut [u8], at: usize, payload: &[u8]) -> usize
 
 // The row up to the bar before the fields.
 fn put_written(out: &mut [u8], at: usize, used: usize, wire: &[u8]) -> usize {
-    let values = [rows::count(used), rows::front(true, wire.len())];
+    let values = [rows::count(used), rows::front(Some(wire.len()))];
     rows::put(out, at, b"0 # # | ", &values, wire)
 }
 

@@ -8,13 +8,15 @@ use mathlib.Core.List.{List, [], ◌∷◌, ◌++◌, flatten, append-nil}
 use lib.Dec.{leb, eqb}
 use lib.ListN.{length, take, drop, get_or, length-append, length-drop, drop_of_length-le}
 use lib.Seq.{take_all, take-length, drop-drop, get_or-drop}
-use borrow.Author.Tests.{le-leb, leb-true, leb-false, ne_eqb}
+use borrow.Author.Tests.{le-leb, leb-true, leb-false}
 use Rattle.slices.specs.Slices.{slice, index_after, index_of}
 use Rattle.octets.specs.Octets.{pick, field, big_endian, big_endian_bytes, over, put}
 use Rattle.octets.proofs.Laws.{length_big_endian_bytes_law, number_field, put_fits, put_nil, put_put, put_behind, length_put}
 use Rattle.hex_text.specs.Hex.{spelled}
-use Rattle.rows.specs.Values.{absent, nothing, hex_value, ipv6_value}
-use Rattle.rows.specs.Row.{quoted, length_of, listed, bracketed, shown_as, shown, led, pieces, numbered, past, ends, puts}
+use Rattle.rows.specs.Values.{ipv6_value}
+use Rattle.rows.specs.declared.Value.{Value}
+use Rattle.rows.specs.declared.Value.TheVariants.{Nothing, Hex}
+use Rattle.rows.specs.Row.{quoted, length_of, listed, bracketed, shown, led, pieces, numbered, past, ends, puts}
 
 -- ---- pieces, put one behind the other
 -- what a call that puts a piece, or some, promises of its answer and its output
@@ -97,24 +99,15 @@ take_most k s = go (leb k (length s)) refl
 
 -- ---- values
 -- what `number` gives of the bytes of an address, and of a part of at most eight bytes
-pub ipv4_value_law : (g : Bool) (octets : List ℕ) (x : ℕ) (r : List ℕ) → length octets ≡ 4 → x ≡ pick (leb (length octets) 8) (big_endian octets) 0 → r ≡ pick g (hex_value 4 0 x) absent
-    → r ≡ pick g (hex_value 4 0 (big_endian octets)) absent
-ipv4_value_law g octets x r h e q = let n : x ≡ big_endian octets = rw (le-leb (length octets) 8 (omega arith)) at e in rw (← n) q
+pub ipv4_number : (octets : List ℕ) (x : ℕ) → length octets ≡ 4 → x ≡ pick (leb (length octets) 8) (big_endian octets) 0 → x ≡ big_endian octets
+ipv4_number octets x h e = rw (le-leb (length octets) 8 (omega arith)) at e
 
 pub part_number : (s p : List ℕ) (at w x : ℕ) → w ≤ 8 → p ≡ take w (drop at s) → x ≡ pick (leb (length p) 8) (big_endian p) 0 → x ≡ big_endian (take w (drop at s))
 part_number s p at w x h q e = (rw q at e) ∙ number_field s at w h
 
-pub ipv6_value_law : (g : Bool) (octets p q : List ℕ) (x y : ℕ) (r : List ℕ) → p ≡ take 8 (drop 0 octets) → x ≡ pick (leb (length p) 8) (big_endian p) 0
-    → q ≡ take 8 (drop 8 octets) → y ≡ pick (leb (length q) 8) (big_endian q) 0
-    → r ≡ pick g (hex_value 16 x y) absent → r ≡ pick g (ipv6_value octets) absent
-ipv6_value_law g octets p q x y r ep ex eq ey e =
-    e ∙ ap₂ (λ (u v : ℕ). pick g (hex_value 16 u v) absent) (part_number octets p 0 8 x (omega arith) ep ex) (part_number octets q 8 8 y (omega arith) eq ey)
-
--- what stands at a place of a list doesn't turn on what is said of the others
-pub there : (l : List (List ℕ)) (i : ℕ) (v w : List ℕ) → i < length l → get_or l i v ≡ get_or l i w
-there [] i v w h = absurd (omega arith)
-there (x ∷ l) zero v w h = refl
-there (x ∷ l) (suc i) v w h = there l i v w (omega arith)
+pub ipv6_hex : (octets p q : List ℕ) (x y : ℕ) → p ≡ take 8 (drop 0 octets) → x ≡ pick (leb (length p) 8) (big_endian p) 0
+    → q ≡ take 8 (drop 8 octets) → y ≡ pick (leb (length q) 8) (big_endian q) 0 → Hex 16 x y ≡ ipv6_value octets
+ipv6_hex octets p q x y ep ex eq ey = ap₂ (Hex 16) (part_number octets p 0 8 x (omega arith) ep ex) (part_number octets q 8 8 y (omega arith) eq ey)
 
 -- ---- the forms of a value
 -- two numbers of eight bytes, put into sixteen, from a place on
@@ -140,17 +133,6 @@ some_spelled p q d d' at e h g = some_one (spelled q) d d' at e (rw h at g)
 
 pub some_quoted : (p q d d' : List ℕ) (at e : ℕ) → p ≡ q → Some (quoted p) d at d' e → Some (quoted q) d at d' e
 some_quoted p q d d' at e h g = rw h at g
-
--- by the form
-pub shown_as_law : (v lent : List ℕ) (form : ℕ) → get_or v 0 0 ≡ form → shown v lent ≡ shown_as form (get_or v 1 0) (get_or v 2 0) (get_or v 3 0) lent
-unfolding shown
-shown_as_law v lent form e = ap (λ (k : ℕ). shown_as k (get_or v 1 0) (get_or v 2 0) (get_or v 3 0) lent) e
-
-pub shown_dash : (v lent : List ℕ)
-    → (get_or v 0 0 ≡ 1 → ⊥) → (get_or v 0 0 ≡ 2 → ⊥) → (get_or v 0 0 ≡ 3 → ⊥) → (get_or v 0 0 ≡ 4 → ⊥) → (get_or v 0 0 ≡ 5 → ⊥) → (get_or v 0 0 ≡ 6 → ⊥) → (get_or v 0 0 ≡ 7 → ⊥)
-    → shown v lent ≡ (0x2D ∷ []) ∷ []
-unfolding shown shown_as
-shown_dash v lent h1 h2 h3 h4 h5 h6 h7 = rw (ne_eqb _ _ h1, ne_eqb _ _ h2, ne_eqb _ _ h3, ne_eqb _ _ h4, ne_eqb _ _ h5, ne_eqb _ _ h6, ne_eqb _ _ h7)
 
 -- ---- the texts of a list
 pub bracketed_none : (n : ℕ) (s : List ℕ) → n ≡ 0 → bracketed n s ≡ (0x5B ∷ 0x5D ∷ []) ∷ []
@@ -194,26 +176,26 @@ list_last mark zero s qs d d1 d₀ e e1 at h g l = left_last (0x5D ∷ []) qs d 
 list_last mark (suc n) s qs d d1 d₀ e e1 at h g l = absurd (omega arith)
 
 -- ---- the pieces of a row
-pieces_last : (words : List ℕ) (values : List (List ℕ)) (lent : List ℕ) → index_of 0x23 words ≡ length words → pieces words values lent ≡ words ∷ []
+pieces_last : (words : List ℕ) (values : List Value) (lent : List ℕ) → index_of 0x23 words ≡ length words → pieces words values lent ≡ words ∷ []
 unfolding pieces led index_of index_after
 pieces_last [] values lent h = refl
 pieces_last (c ∷ words) values lent h = go (eqb c 0x23) h (pieces_last words values lent)
   where
     go : (t : Bool) → index_after t (index_of 0x23 words) ≡ suc (length words) → (index_of 0x23 words ≡ length words → pieces words values lent ≡ words ∷ [])
-        → pick t ([] ∷ (shown (get_or values 0 nothing) lent ++ pieces words (drop 1 values) lent)) (led c (pieces words values lent)) ≡ (c ∷ words) ∷ []
+        → pick t ([] ∷ (shown (get_or values 0 Nothing) lent ++ pieces words (drop 1 values) lent)) (led c (pieces words values lent)) ≡ (c ∷ words) ∷ []
     go true h f = absurd (omega arith)
     go false h f = rw (f (omega arith))
 
-pieces_more : (words : List ℕ) (values : List (List ℕ)) (lent : List ℕ) → index_of 0x23 words < length words
-    → pieces words values lent ≡ take (index_of 0x23 words) words ∷ (shown (get_or values 0 nothing) lent ++ pieces (drop (suc (index_of 0x23 words)) words) (drop 1 values) lent)
+pieces_more : (words : List ℕ) (values : List Value) (lent : List ℕ) → index_of 0x23 words < length words
+    → pieces words values lent ≡ take (index_of 0x23 words) words ∷ (shown (get_or values 0 Nothing) lent ++ pieces (drop (suc (index_of 0x23 words)) words) (drop 1 values) lent)
 unfolding pieces led index_of index_after
 pieces_more [] values lent h = absurd (omega arith)
 pieces_more (c ∷ words) values lent h = go (eqb c 0x23) h (pieces_more words values lent)
   where
     go : (t : Bool) → index_after t (index_of 0x23 words) < suc (length words)
-        → (index_of 0x23 words < length words → pieces words values lent ≡ take (index_of 0x23 words) words ∷ (shown (get_or values 0 nothing) lent ++ pieces (drop (suc (index_of 0x23 words)) words) (drop 1 values) lent))
-        → pick t ([] ∷ (shown (get_or values 0 nothing) lent ++ pieces words (drop 1 values) lent)) (led c (pieces words values lent))
-        ≡ take (index_after t (index_of 0x23 words)) (c ∷ words) ∷ (shown (get_or values 0 nothing) lent ++ pieces (drop (suc (index_after t (index_of 0x23 words))) (c ∷ words)) (drop 1 values) lent)
+        → (index_of 0x23 words < length words → pieces words values lent ≡ take (index_of 0x23 words) words ∷ (shown (get_or values 0 Nothing) lent ++ pieces (drop (suc (index_of 0x23 words)) words) (drop 1 values) lent))
+        → pick t ([] ∷ (shown (get_or values 0 Nothing) lent ++ pieces words (drop 1 values) lent)) (led c (pieces words values lent))
+        ≡ take (index_after t (index_of 0x23 words)) (c ∷ words) ∷ (shown (get_or values 0 Nothing) lent ++ pieces (drop (suc (index_after t (index_of 0x23 words))) (c ∷ words)) (drop 1 values) lent)
     go true h f = refl
     go false h f = rw (f (omega arith))
 
@@ -223,7 +205,7 @@ module _ (words : List ℕ) (from to : ℕ) (start : from ≤ length words) (fou
   unfolding slice
   index = let e : index_of 0x23 (drop from (take (length words) words)) ≡ index_of 0x23 (drop from words) = rw take-length in omega arith
 
-  module _ (values : List (List ℕ)) (lent : List ℕ) (i : ℕ) (qs : List (List ℕ)) (p d d1 d₀ : List ℕ) (e e1 at : ℕ) (part : p ≡ take (to - from) (drop from words)) (g : One p d e d1 e1)
+  module _ (values : List Value) (lent : List ℕ) (i : ℕ) (qs : List (List ℕ)) (p d d1 d₀ : List ℕ) (e e1 at : ℕ) (part : p ≡ take (to - from) (drop from words)) (g : One p d e d1 e1)
       (l : Left (pieces (drop from words) (drop i values) lent) d e qs d₀ at) where
     pub row_last : to ≡ length words → Some qs d₀ at d1 e1
     row_last h =
@@ -232,12 +214,12 @@ module _ (words : List ℕ) (from to : ℕ) (start : from ≤ length words) (fou
         pieces_last (drop from words) (drop i values) lent (omega (arith, index)) ∙ ap (λ (w : List ℕ). w ∷ []) (sym (part ∙ take_all (to - from) (drop from words) (omega arith))) in
         left_last p qs d d1 d₀ e e1 at g (rw one at l)
 
-    pub row_more : (v d2 : List ℕ) (e2 : ℕ) → (to ≡ length words → ⊥) → to ≤ length words → v ≡ get_or values i nothing → Some (shown v lent) d1 e1 d2 e2
+    pub row_more : (v : Value) (d2 : List ℕ) (e2 : ℕ) → (to ≡ length words → ⊥) → to ≤ length words → v ≡ get_or values i Nothing → Some (shown v lent) d1 e1 d2 e2
         → Left (pieces (drop (to + 1) words) (drop (i + 1) values) lent) d2 e2 qs d₀ at
     row_more v d2 e2 h r q k =
         let long = length-drop from words in
         let place : from + suc (to - from) ≡ to + 1 = omega (arith, index) in
-        let next : get_or (drop i values) 0 nothing ≡ v = get_or-drop i values 0 nothing ∙ ap (λ (j : ℕ). get_or values j nothing) (add-zero i) ∙ sym q in
+        let next : get_or (drop i values) 0 Nothing ≡ v = get_or-drop i values 0 Nothing ∙ ap (λ (j : ℕ). get_or values j Nothing) (add-zero i) ∙ sym q in
         let more : drop (suc (to - from)) (drop from words) ≡ drop (to + 1) words = drop-drop (suc (to - from)) from words ∙ ap (λ (j : ℕ). drop j words) place in
         let two : pieces (drop from words) (drop i values) lent ≡ p ∷ (shown v lent ++ pieces (drop (to + 1) words) (drop (i + 1) values) lent) =
         pieces_more (drop from words) (drop i values) lent (omega (arith, index)) ∙ rw (index, more, next, drop-drop 1 i values, part) in

@@ -1,9 +1,10 @@
 -- A row of text: words, with values among them. It is put piece by piece, one piece behind the other.
-use Rattle.std.specs.Prelude.{ℕ, zero, suc, ◌+◌, ◌-◌, ◌%◌, min, List, [], ◌∷◌, ◌++◌, eqb, length, take, drop, get_or}
+use Rattle.std.specs.Prelude.{ℕ, zero, suc, ◌+◌, ◌-◌, min, List, [], ◌∷◌, ◌++◌, eqb, length, take, drop, get_or}
 use Rattle.octets.specs.Octets.{pick, field, big_endian, big_endian_bytes, put}
 use Rattle.slices.specs.Slices.{index_of}
 use Rattle.hex_text.specs.Hex.{spelled, decimal}
-use Rattle.rows.specs.Values.{nothing}
+use Rattle.rows.specs.declared.Value.{Value}
+use Rattle.rows.specs.declared.Value.TheVariants.{Absent, Nothing, Count, Signed, Hex, Part, Quoted, Listed}
 
 -- ---- a value as it is shown
 -- a text: its bytes in hex, between quotes
@@ -24,21 +25,17 @@ unfoldable pub bracketed : ℕ → List ℕ → List (List ℕ)
 bracketed zero s = (0x5B ∷ 0x5D ∷ []) ∷ []
 bracketed (suc n) s = listed 0x5B (suc n) s
 
--- by its form, and the three numbers that the form takes: nothing; a number in decimal; a sign and such a number; the last bytes of
--- two numbers of eight bytes, so many; bytes of the slice; a text of it; a list of texts; a dash where it isn't given
-unfoldable pub shown_as : ℕ → ℕ → ℕ → ℕ → List ℕ → List (List ℕ)
-shown_as form x y z slice =
-    pick (eqb form 1) []
-    (pick (eqb form 2) (decimal x ∷ [])
-    (pick (eqb form 3) ((x % 256 ∷ []) ∷ decimal y ∷ [])
-    (pick (eqb form 4) (spelled (drop (16 - x) (big_endian_bytes 8 y ++ big_endian_bytes 8 z)) ∷ [])
-    (pick (eqb form 5) (spelled (field slice x y) ∷ [])
-    (pick (eqb form 6) (quoted (field slice x y))
-    (pick (eqb form 7) (bracketed y (drop x slice))
-    ((0x2D ∷ []) ∷ [])))))))
-
-unfoldable pub shown : List ℕ → List ℕ → List (List ℕ)
-shown v slice = shown_as (get_or v 0 0) (get_or v 1 0) (get_or v 2 0) (get_or v 3 0) slice
+-- a dash where it isn't given; nothing; a number in decimal; a sign and such a number; the last bytes of two numbers of eight bytes, so
+-- many; bytes of the slice; a text of it; a list of texts
+unfoldable pub shown : Value → List ℕ → List (List ℕ)
+shown Absent slice = (0x2D ∷ []) ∷ []
+shown Nothing slice = []
+shown (Count n) slice = decimal n ∷ []
+shown (Signed sign n) slice = (sign ∷ []) ∷ decimal n ∷ []
+shown (Hex width high low) slice = spelled (drop (16 - width) (big_endian_bytes 8 high ++ big_endian_bytes 8 low)) ∷ []
+shown (Part place len) slice = spelled (field slice place len) ∷ []
+shown (Quoted place len) slice = quoted (field slice place len)
+shown (Listed place count) slice = bracketed count (drop place slice)
 
 -- ---- a row
 -- a character before the others of the first piece
@@ -47,11 +44,11 @@ led c [] = (c ∷ []) ∷ []
 led c (p ∷ ps) = (c ∷ p) ∷ ps
 
 -- the pieces of a row: its words up to each `#`, and there the next value; nothing is shown where there is no value left
-unfoldable pub pieces : List ℕ → List (List ℕ) → List ℕ → List (List ℕ)
+unfoldable pub pieces : List ℕ → List Value → List ℕ → List (List ℕ)
 pieces [] values slice = [] ∷ []
 pieces (c ∷ words) values slice =
     pick (eqb c 0x23)
-    ([] ∷ (shown (get_or values 0 nothing) slice ++ pieces words (drop 1 values) slice))
+    ([] ∷ (shown (get_or values 0 Nothing) slice ++ pieces words (drop 1 values) slice))
     (led c (pieces words values slice))
 
 -- the row of a line that is of no known form: `? 0 -`

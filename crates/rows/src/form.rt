@@ -7,29 +7,6 @@ ghost use Rattle.rows.specs.Row.{quoted, length_of, bracketed, shown, past, ends
 use crate::Value;
 use lines::{after, left};
 
-// A dash.
-pub(crate) const ABSENT: u64 = 0;
-
-pub(crate) const NOTHING: u64 = 1;
-
-// A number in decimal.
-pub(crate) const COUNT: u64 = 2;
-
-// A sign, and a number in decimal.
-pub(crate) const SIGNED: u64 = 3;
-
-// So many bytes, and two numbers whose last bytes these are, in hex.
-pub(crate) const HEX: u64 = 4;
-
-// Bytes of the slice, by place and length, in hex.
-pub(crate) const PART: u64 = 5;
-
-// The same between quotes.
-pub(crate) const TEXT: u64 = 6;
-
-// Texts from a place of the slice on, each behind its length, and how many.
-pub(crate) const LIST: u64 = 7;
-
 pub(crate) fn words(out: &mut [u8], at: usize, bs: &[u8]) -> usize
     ensures value { result ≡ past at bs.now }
     ensures out_after { out.new ≡ put out.old at bs.now }
@@ -70,14 +47,14 @@ fn signed(out: &mut [u8], at: usize, sign: u8, n: u64) -> usize
     decimal(out, end, n)
 }
 
-fn number(out: &mut [u8], at: usize, width: u64, high: u64, low: u64) -> usize
+fn number(out: &mut [u8], at: usize, width: usize, high: u64, low: u64) -> usize
     ensures value { result ≡ past at (spelled (drop (16 - width) (big_endian_bytes 8 high ++ big_endian_bytes 8 low))) }
     ensures out_after { out.new ≡ put out.old at (spelled (drop (16 - width) (big_endian_bytes 8 high ++ big_endian_bytes 8 low))) }
 {
     let mut bs = [0u8; 16];
     octets::put_number(&mut bs, 0, 8, high);
     octets::put_number(&mut bs, 8, 8, low);
-    digits(out, at, texts::part(&bs, left(16, width as usize), 16))
+    digits(out, at, texts::part(&bs, left(16, width), 16))
 }
 
 fn text(out: &mut [u8], at: usize, bs: &[u8]) -> usize
@@ -105,7 +82,7 @@ fn length_at(slice: &[u8], at: usize) -> usize
     octets::number(texts::part(slice, at, 2)) as usize
 }
 
-fn list(out: &mut [u8], at: usize, slice: &[u8], place: usize, count: u64) -> usize
+fn list(out: &mut [u8], at: usize, slice: &[u8], place: usize, count: usize) -> usize
     ensures value { result ≡ ends at (bracketed count (drop place slice.now)) }
     ensures out_after { out.new ≡ puts out.old at (bracketed count (drop place slice.now)) }
 {
@@ -131,16 +108,14 @@ pub(crate) fn value(out: &mut [u8], at: usize, v: Value, slice: &[u8]) -> usize
     ensures value { result ≡ ends at (shown v slice.now) }
     ensures out_after { out.new ≡ puts out.old at (shown v slice.now) }
 {
-    let x = v[1];
-    let y = v[2];
-    match v[0] {
-        NOTHING => at,
-        COUNT => decimal(out, at, x),
-        SIGNED => signed(out, at, (x % 256) as u8, y),
-        HEX => number(out, at, x, y, v[3]),
-        PART => digits(out, at, texts::part(slice, x as usize, y as usize)),
-        TEXT => text(out, at, texts::part(slice, x as usize, y as usize)),
-        LIST => list(out, at, slice, x as usize, y),
-        _ => words(out, at, b"-"),
+    match v {
+        Value::Absent => words(out, at, b"-"),
+        Value::Nothing => at,
+        Value::Count(n) => decimal(out, at, n),
+        Value::Signed { sign, n } => signed(out, at, sign, n),
+        Value::Hex { width, high, low } => number(out, at, width, high, low),
+        Value::Part { place, len } => digits(out, at, texts::part(slice, place, len)),
+        Value::Quoted { place, len } => text(out, at, texts::part(slice, place, len)),
+        Value::Listed { place, count } => list(out, at, slice, place, count),
     }
 }

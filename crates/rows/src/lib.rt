@@ -6,46 +6,55 @@ pub mod stream;
 
 ghost use Rattle.std.specs.Prelude.{◌≡◌, suc, ◌+◌, ◌≤◌, min, length, drop, get_or};
 ghost use Rattle.slices.specs.Slices.{index_of};
-ghost use Rattle.octets.specs.Octets.{pick, if_set, big_endian};
-ghost use Rattle.rows.specs.Values.{absent, nothing, count_value, signed_value, integer_value, hex_value, ipv6_value, part_value, text_value, list_value};
+ghost use Rattle.octets.specs.Octets.{pick, if_set};
+ghost use Rattle.rows.specs.Values.{given, integer_value, hex_value, ipv4_value, ipv6_value};
+ghost use Rattle.rows.specs.declared.Value.TheVariants.{Nothing, Count, Signed, Part, Quoted, Listed};
 ghost use Rattle.rows.specs.Row.{pieces, other, numbered, ends, puts};
 
-use form::{COUNT, HEX, LIST, PART, SIGNED, TEXT};
 use lines::{after, least, left};
-use octets::{MaybeIpv4, MaybeIpv6};
+use texts::Text;
 
-// A value of a row: its form, and what that takes.
-pub type Value = [u64; 4];
-
-// What isn't given, shown as a dash; and what isn't shown at all.
-const ABSENT: Value = [form::ABSENT, 0, 0, 0];
-
-const NOTHING: Value = [form::NOTHING, 0, 0, 0];
+// A value of a row, by how it is shown.
+#[derive(Clone, Copy)]
+pub enum Value {
+    // What isn't given: a dash.
+    Absent,
+    // What isn't shown at all.
+    Nothing,
+    // A number in decimal.
+    Count(u64),
+    // A sign, and a number in decimal.
+    Signed { sign: u8, n: u64 },
+    // The last bytes of two numbers of eight bytes each, so many, in hex.
+    Hex { width: usize, high: u64, low: u64 },
+    // Bytes of the slice that goes with a row, in hex.
+    Part { place: usize, len: usize },
+    // A text of that slice, between quotes.
+    Quoted { place: usize, len: usize },
+    // So many texts from a place of that slice on, each behind its length.
+    Listed { place: usize, count: usize },
+}
 
 pub fn count(n: usize) -> Value
-    ensures { result ≡ count_value n }
+    ensures { result ≡ Count n }
 {
-    [COUNT, n as u64, 0, 0]
+    Value::Count(n as u64)
 }
 
 pub fn flag(is_set: bool) -> Value
-    ensures { result ≡ count_value (if_set is_set 1) }
+    ensures { result ≡ Count (if_set is_set 1) }
 {
     count(octets::if_set(is_set, 1))
 }
 
-// One of two values.
-fn one_of(first: bool, v: Value, w: Value) -> Value
-    ensures { result ≡ pick first v w }
-{
-    if first { v } else { w }
-}
-
 // A number in decimal behind a sign, where it is shown.
 pub fn signed(is_shown: bool, sign: u8, n: usize) -> Value
-    ensures { result ≡ pick is_shown (signed_value sign n) nothing }
+    ensures { result ≡ pick is_shown (Signed sign n) Nothing }
 {
-    one_of(is_shown, [SIGNED, sign as u64, n as u64, 0], NOTHING)
+    if !is_shown {
+        return Value::Nothing;
+    }
+    Value::Signed { sign, n: n as u64 }
 }
 
 // A number in decimal, behind a minus sign where it is below 0. What is left of -1 without such a number can't overflow.
@@ -53,77 +62,75 @@ pub fn integer(x: i32) -> Value
     ensures { result ≡ integer_value x }
 {
     if x < 0 {
-        return [SIGNED, b'-' as u64, (-1 - x) as u64 + 1, 0];
+        return Value::Signed {
+            sign: b'-',
+            n: (-1 - x) as u64 + 1,
+        };
     }
-    [COUNT, x as u64, 0, 0]
+    Value::Count(x as u64)
 }
 
-// A number of so many bytes, where it is given.
-fn number(given: bool, width: u64, x: u64) -> Value
-    ensures { result ≡ pick given (hex_value width 0 x) absent }
+// A number of so many bytes, where there is one.
+pub fn number(width: usize, x: Option<u64>) -> Value
+    ensures { result ≡ given (hex_value width) x }
 {
-    one_of(given, [HEX, width, 0, x], ABSENT)
+    x.map_or(
+        Value::Absent,
+        |low| Value::Hex {
+            width,
+            high: 0,
+            low,
+        },
+    )
 }
 
-pub fn number8(given: bool, x: u8) -> Value
-    ensures { result ≡ pick given (hex_value 1 0 x) absent }
+pub fn ipv4(address: Option<[u8; 4]>) -> Value
+    ensures { result ≡ given ipv4_value address }
 {
-    number(given, 1, x as u64)
+    match address {
+        None => Value::Absent,
+        Some(octets) => number(4, Some(octets::number(&octets))),
+    }
 }
 
-pub fn number16(given: bool, x: u16) -> Value
-    ensures { result ≡ pick given (hex_value 2 0 x) absent }
+pub fn ipv6(address: Option<[u8; 16]>) -> Value
+    ensures { result ≡ given ipv6_value address }
 {
-    number(given, 2, x as u64)
-}
-
-pub fn number32(given: bool, x: u32) -> Value
-    ensures { result ≡ pick given (hex_value 4 0 x) absent }
-{
-    number(given, 4, x as u64)
-}
-
-pub fn number64(x: u64) -> Value
-    ensures { result ≡ hex_value 8 0 x }
-{
-    number(true, 8, x)
-}
-
-pub fn ipv4(a: MaybeIpv4) -> Value
-    ensures { result ≡ pick a.given (hex_value 4 0 (big_endian a.octets)) absent }
-{
-    let octets = a.octets;
-    number(a.given, 4, octets::number(&octets))
-}
-
-pub fn ipv6(a: MaybeIpv6) -> Value
-    ensures { result ≡ pick a.given (ipv6_value a.octets) absent }
-{
-    let octets = a.octets;
-    let high = octets::number(texts::part(&octets, 0, 8));
-    let low = octets::number(texts::part(&octets, 8, 8));
-    one_of(a.given, [HEX, 16, high, low], ABSENT)
+    match address {
+        None => Value::Absent,
+        Some(octets) => Value::Hex {
+            width: 16,
+            high: octets::number(texts::part(&octets, 0, 8)),
+            low: octets::number(texts::part(&octets, 8, 8)),
+        },
+    }
 }
 
 // So many bytes at the front of the slice that goes with a row, where they are given.
-pub fn front(given: bool, len: usize) -> Value
-    ensures { result ≡ pick given (part_value 0 len) absent }
+pub fn front(len: Option<usize>) -> Value
+    ensures { result ≡ given (Part 0) len }
 {
-    one_of(given, [PART, 0, len as u64, 0], ABSENT)
+    len.map_or(Value::Absent, |len| Value::Part { place: 0, len })
 }
 
-// A text of that slice, where it is given.
-pub fn text(given: bool, place: usize, len: usize) -> Value
-    ensures { result ≡ pick given (text_value place len) absent }
+// A text of that slice, where there is one.
+pub fn text(text: Option<Text>) -> Value
+    ensures { result ≡ given (λ t. Quoted t.place t.len) text }
 {
-    one_of(given, [TEXT, place as u64, len as u64, 0], ABSENT)
+    text.map_or(
+        Value::Absent,
+        |text| Value::Quoted {
+            place: text.place,
+            len: text.len,
+        },
+    )
 }
 
 // So many texts, each behind its length, from a place of that slice on.
 pub fn list(place: usize, count: usize) -> Value
-    ensures { result ≡ list_value place count }
+    ensures { result ≡ Listed place count }
 {
-    [LIST, place as u64, count as u64, 0]
+    Value::Listed { place, count }
 }
 
 // The place behind the end of the line that a place is in.
@@ -152,12 +159,9 @@ pub fn row(words: &[u8], number: usize) -> &[u8]
 }
 
 fn value_at(values: &[Value], i: usize) -> Value
-    ensures { result ≡ get_or values.now i nothing }
+    ensures { result ≡ get_or values.now i Nothing }
 {
-    if values.len() <= i {
-        return NOTHING;
-    }
-    values[i]
+    values.get(i).copied().unwrap_or(Value::Nothing)
 }
 
 // Puts a row at a place of the output, and returns the place behind it. Each `#` of the words stands for the next value.

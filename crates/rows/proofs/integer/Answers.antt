@@ -62,8 +62,8 @@ module _ (z : ℤ) (f : SFits w32 z) where
 pub overflow_sub-result : goal.overflow_sub-result
 overflow_sub-result c = left_fits c.args.x c.ranges.x c.if-x-lt0.true
 
-pub overflow_cast-result-then-x-lt0 : goal.overflow_cast-result-then-x-lt0
-overflow_cast-result-then-x-lt0 c =
+pub overflow_cast-result : goal.overflow_cast-result
+overflow_cast-result c =
     let x = c.args.x in
     let f = c.ranges.x in
     rw (read_back x f c.if-x-lt0.true) (tt, record { fits = omega (arith, (b x f c.if-x-lt0.true).small) })
