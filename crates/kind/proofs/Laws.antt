@@ -9,12 +9,11 @@ use lib.Bits.{bit_and, and_le_l, and_mask}
 use lib.Dec.{leb}
 use lib.ListN.{length, get_or, take}
 use borrow.Author.Tests.{le-leb, lt-leb, leb-true}
-use Rattle.std.specs.Prelude.{Option, Some, None}
 use Rattle.answer.specs.declared.Answer.TheVariants.{Done, Short, InputTooLong}
 use Rattle.octets.specs.Octets.{pick, bit, if_set, Bytes, field}
 use Rattle.octets.proofs.Laws.{field_take}
 use Rattle.octets.proofs.Masks.{bit_kept, and_and}
-use Rattle.kind.specs.Layout.{Wanted, wanted, rule_of, Layout, Outcome, accepts, refuses, walk, unless_broken, outcome, clear}
+use Rattle.kind.specs.Layout.{Wanted, wanted, Layout, Outcome, accepts, refuses, walk, unless_broken, outcome, clear}
 
 -- ---- the walk
 
@@ -51,25 +50,6 @@ walk_refuses n at (wanted number sent width ∷ fs) q = go (walk_refuses n (at +
     go : (walk n (at + if_set sent width) fs ≡ refuses Done → ⊥) → (t : Bool) → pick t (walk n (at + if_set sent width) fs) (refuses (Short number (at + if_set sent width) n)) ≡ refuses Done → ⊥
     go next true q = next q
     go next false q = let z : ◌≡◌ {A = ℕ} 0 1 = cc in omega arith
-
--- ---- rules
--- by its number, a rule that is broken, or none
-module _ (n : ℕ) {o : Option ℕ} (e : o ≡ rule_of n) where
-  pub rule_given : (k : ℕ) → o ≡ Some k → (k ≡ n) × (k ≡ 0 → ⊥)
-  unfolding rule_of
-  rule_given k h = go n k (sym h ∙ e)
-    where
-      go : (n k : ℕ) → Some k ≡ rule_of n → (k ≡ n) × (k ≡ 0 → ⊥)
-      go zero k q = absurd cc
-      go (suc n) k q = let z : k ≡ suc n = cc in (z, λ y. omega arith)
-
-  pub rule_free : o ≡ None → n ≡ 0
-  unfolding rule_of
-  rule_free h = go n (sym h ∙ e)
-    where
-      go : (n : ℕ) → None ≡ rule_of n → n ≡ 0
-      go zero q = refl
-      go (suc n) q = absurd cc
 
 -- ---- what a layout makes of a payload
 module _ (l : Layout) (s : List ℕ) where

@@ -1,5 +1,5 @@
 -- Fields in a row, and a walk over them: the layouts of document 01 that have fixed fields, and that of a message header.
-use Rattle.std.specs.Prelude.{ℕ, zero, suc, ◌+◌, Bool, List, [], ◌∷◌, length, get_or, leb, Option, None, Some}
+use Rattle.std.specs.Prelude.{ℕ, zero, suc, ◌+◌, Bool, List, [], ◌∷◌, length, get_or, leb}
 use Rattle.std.specs.Int.Bits.{bit_and}
 use Rattle.answer.specs.declared.Answer.{Answer}
 use Rattle.answer.specs.declared.Answer.TheVariants.{Short, Flags, InputTooLong}
@@ -8,11 +8,6 @@ use Rattle.octets.specs.Octets.{pick, if_set}
 -- a field: its number in document 01, whether it is sent, its width
 pub data Wanted : Type 0 where
   wanted : ℕ → Bool → ℕ → Wanted
-
--- a rule by its number, 0 for none
-unfoldable pub rule_of : ℕ → Option ℕ
-rule_of zero = None
-rule_of (suc rule) = Some (suc rule)
 
 -- a layout: how many bytes come first (field 0); by the first byte, the rule that it breaks (0 for none) and the fields that follow
 pub record Layout : Type 0 where

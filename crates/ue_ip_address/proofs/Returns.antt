@@ -9,12 +9,10 @@ use Rattle.std.specs.Prelude.{Option, Some, None}
 use Rattle.answer.specs.declared.Answer.TheVariants.{Done, Short, Flags, InputTooLong}
 use Rattle.answer.specs.declared.Read.{Read}
 use Rattle.octets.specs.Octets.{pick, bit, if_set, field, address_of, number_of}
-use Rattle.kind.specs.Layout.{rule_of}
-use Rattle.kind.proofs.Laws.{rule_given, rule_free}
 use Rattle.kind.proofs.Cases.{stop_long, stop_head, stop_rule, stop_field, all_there, width_if_set_law}
 use Rattle.ue_ip_address.specs.declared.UeIpAddress.{UeIpAddress}
-use Rattle.ue_ip_address.specs.UeIpAddress.{broken_rule, layout, read, found, refused, record_of}
-use Rattle.ue_ip_address.proofs.Rules.{keeps2}
+use Rattle.ue_ip_address.specs.UeIpAddress.{broken_rule, rule_of, layout, read, found, refused, record_of}
+use Rattle.ue_ip_address.proofs.Rules.{keeps2, rule_given, rule_free}
 
 module _ (s : List ℕ) (r : Read UeIpAddress) where
   pub too_long : 65535 < length s → r ≡ refused (InputTooLong (length s)) → r ≡ read s

@@ -1,6 +1,6 @@
 -- UE IP Address, as document 01 has it.
-use Rattle.std.specs.Prelude.{ℕ, ◌+◌, Bool, false, not, ◌&&◌, ◌||◌, List, [], ◌∷◌, ◌++◌, get_or}
-use Rattle.std.specs.Prelude.{Option, None, is_some}
+use Rattle.std.specs.Prelude.{ℕ, zero, suc, ◌+◌, Bool, false, not, ◌&&◌, ◌||◌, List, [], ◌∷◌, ◌++◌, get_or}
+use Rattle.std.specs.Prelude.{Option, None, Some, is_some}
 use Rattle.answer.specs.declared.Answer.{Answer}
 use Rattle.answer.specs.declared.Answer.TheVariants.{Done}
 use Rattle.answer.specs.declared.Read.{Read}
@@ -60,6 +60,11 @@ breaks_rule3 b = (bit 3 b || bit 6 b) && not (bit 0 b || bit 5 b)
 -- the first that it breaks, 0 for none
 unfoldable pub broken_rule : ℕ → ℕ
 broken_rule b = pick (breaks_rule1 b) 1 (pick (breaks_rule2 b) 2 (pick (breaks_rule3 b) 3 0))
+
+-- the same rule, by its number
+unfoldable pub rule_of : ℕ → Option ℕ
+rule_of zero = None
+rule_of (suc n) = Some (suc n)
 
 -- flags, one byte, then IPv4 under V4, IPv6 under V6, one byte under IPv6D, one byte under IP6PL
 abbrev pub layout : Layout

@@ -4,8 +4,7 @@
 ghost use Rattle.std.specs.Prelude.{◌≡◌, length};
 ghost use Rattle.octets.specs.Octets.{put};
 ghost use Rattle.answer.specs.Paper.{written};
-ghost use Rattle.kind.specs.Layout.{rule_of};
-ghost use Rattle.ue_ip_address.specs.UeIpAddress.{breaks_rule1, breaks_rule2, breaks_rule3, broken_rule, made, choosing, meaning, wire, max_len, read, refused};
+ghost use Rattle.ue_ip_address.specs.UeIpAddress.{breaks_rule1, breaks_rule2, breaks_rule3, broken_rule, rule_of, made, choosing, meaning, wire, max_len, read, refused};
 
 use answer::{Answer, Read, Written};
 

@@ -1,6 +1,6 @@
 -- `ue_ip_address::broken_rule` meets its contract: the rules in their order.
 use mathlib.Core.Path.{ap}
-use Rattle.kind.specs.Layout.{rule_of}
+use Rattle.ue_ip_address.specs.UeIpAddress.{rule_of}
 use Rattle.ue_ip_address.proofs.Rules.{rule1, rule2, rule3, no_rule}
 use Rattle.ue_ip_address.proofs.broken_rule.Goals as goal
 

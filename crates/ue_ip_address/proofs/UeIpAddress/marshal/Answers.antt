@@ -1,10 +1,9 @@
 -- `ue_ip_address::UeIpAddress::marshal` meets its contract: five puts, one behind the other, are one put of the written form.
 use Prim.Native.Nat.{ℕ, ◌+◌}
 use native.Mathlib.Omega.{arith}
-use mathlib.Core.Path.{◌≡◌, refl, sym, ap, ◌∙◌}
+use mathlib.Core.Path.{◌≡◌, refl, sym, ◌∙◌}
 use mathlib.Core.Bool.{Bool, false}
-use Rattle.std.specs.Prelude.{Option, None, Some, IfSome, is_some}
-use Rattle.std.specs.Option.{MatchOption, IsSomeAnd}
+use Rattle.std.specs.Prelude.{IfSome, is_some}
 use mathlib.Core.List.{List, [], ◌∷◌, ◌++◌}
 use lib.ListN.{length, length-append}
 use borrow.Author.Rules.{rules}
@@ -63,12 +62,6 @@ module _ (r : UeIpAddress) (u4 u6 ub up : ℕ) (w : Widths r u4 u6 ub up) where
       (then _ (1 + u4 + u6 + ub) q4 (omega (arith, w.bits))
       (ends q5))))
 
--- a byte that may be absent, as a number that may be
-as_number : {o r : Option ℕ} → MatchOption o (r ≡ None) (λ x. IsSomeAnd r (λ y. y ≡ x)) → r ≡ o
-as_number {o = None} e = e
-as_number {o = Some x} {r = Some y} e = ap Some e
-as_number {o = Some x} {r = None} e = absurd e
-
 pub returns-then-out-end : goal.returns-then-out-end
 returns-then-out-end c =
     let l4 : IfSome c.args.self.ipv4_address (λ bs. length bs ≡ 4) = search rules in
@@ -82,8 +75,8 @@ returns c =
     let l4 : IfSome c.args.self.ipv4_address (λ bs. length bs ≡ 4) = search rules in
     let l6 : IfSome c.args.self.ipv6_address (λ bs. length bs ≡ 16) = search rules in
     let w = widths c.args.self l4 l6 c.is_some.ensures c.if_set-end4.ensures.value c.is_some-2.ensures c.if_set.ensures.value c.is_some-3.ensures c.if_set-2.ensures.value c.is_some-4.ensures c.if_set-3.ensures.value in
-    let bits : c.map.result ≡ c.args.self.ipv6_prefix_delegation_bits = as_number c.map.ensures.cases in
-    let prefix : c.map-2.result ≡ c.args.self.ipv6_prefix_length = as_number c.map-2.ensures.cases in
+    let bits : c.map.result ≡ c.args.self.ipv6_prefix_delegation_bits = search rules in
+    let prefix : c.map-2.result ≡ c.args.self.ipv6_prefix_length = search rules in
     let both = all_put _ _ _ (long r _ _ _ _ w) _ c.if-out-end.false
     (row r _ _ _ _ w _ _ _ _ _ _ _ c.flag_byte-flags.ensures c.put_byte.ensures c.put_address.ensures c.put_address-2.ensures
     (rw bits at c.put_number_if.ensures) (rw prefix at c.put_number_if-2.ensures)) in record { value = both.0; out_after = both.1 }

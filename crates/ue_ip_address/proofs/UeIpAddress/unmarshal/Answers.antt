@@ -1,6 +1,5 @@
 -- `ue_ip_address::UeIpAddress::unmarshal` meets its contract: at each return, the tests that led there and what the calls handed over.
 use native.Mathlib.Nat.{add-sub_cancel_left}
-use mathlib.Core.Path.{sym, ◌∙◌}
 use Rattle.ue_ip_address.proofs.Returns.{too_long, no_head, broken, free_of, no_ipv4, no_ipv6, no_bits, no_prefix, whole}
 use Rattle.ue_ip_address.proofs.UeIpAddress.unmarshal.Goals as goal
 
