@@ -1,5 +1,5 @@
 -- The F-TEID builder, as document 01 has it.
-use Rattle.std.specs.Prelude.{ℕ, Bool, true, false, not, ◌&&◌, ◌||◌, List, Option, None, Some, is_some}
+use Rattle.std.specs.Prelude.{ℕ, Bool, false, not, ◌&&◌, ◌||◌, List, Option, None, Some, is_some}
 use Rattle.std.specs.Option.{unwrap_or}
 use Rattle.answer.specs.declared.Answer.TheVariants.{Done, Unbuilt}
 use Rattle.answer.specs.declared.Built.{Built}
