@@ -259,6 +259,22 @@ impl OuterHeaderCreationFlags {
     }
 }
 
+impl From<u8> for OuterHeaderCreationFlags {
+    ghost from_gives = { λ byte flags. flags ≡ flags_of byte };
+
+    fn from(byte: u8) -> OuterHeaderCreationFlags {
+        OuterHeaderCreationFlags::of(byte)
+    }
+}
+
+impl From<OuterHeaderCreationFlags> for u8 {
+    ghost from_gives = { λ flags byte. byte ≡ byte_of flags };
+
+    fn from(flags: OuterHeaderCreationFlags) -> u8 {
+        flags.byte()
+    }
+}
+
 impl OuterHeaderCreation {
     // How long the written forms of records that a reader gives are, at least and at most.
     pub const MIN_LEN: usize = 2;
@@ -409,9 +425,9 @@ impl OuterHeaderCreation {
         octets::put_number_if(out, 2, 4, sent.teid.map(|teid| teid.0 as u64));
         octets::put_address(out, ends.teid, sent.ipv4_address);
         octets::put_address(out, ends.ipv4, sent.ipv6_address);
-        octets::put_number_if(out, ends.ipv6, 2, sent.port_number.map(|port| port as u64));
-        octets::put_number_if(out, ends.port, 3, sent.ctag.map(|tag| tag as u64));
-        octets::put_number_if(out, ends.ctag, 3, sent.stag.map(|tag| tag as u64));
+        octets::put_number_if(out, ends.ipv6, 2, sent.port_number.map(u64::from));
+        octets::put_number_if(out, ends.port, 3, sent.ctag.map(u64::from));
+        octets::put_number_if(out, ends.ctag, 3, sent.stag.map(u64::from));
         Written {
             answer: Answer::Done,
             len,

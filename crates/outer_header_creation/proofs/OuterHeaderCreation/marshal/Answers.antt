@@ -107,13 +107,6 @@ module _ (w : OuterHeaderCreation) where
       put_so : (d d' : List ℕ) → Puts d 0 (flatten pieces) d' → Puts d 0 (wire (meaning r)) d'
       put_so d d' p = rw (whole r q) at p
 
-same : (o p : Option ℕ) → p ≡ option_map (λ x. x) o → p ≡ o
-same (Some x) p q = q
-same None p q = q
-
-put_same : (w at : ℕ) (d d' : List ℕ) (o p : Option ℕ) → p ≡ option_map (λ x. x) o → d' ≡ put d at (number_if w p) → d' ≡ put d at (number_if w o)
-put_same w at d d' o p q e = rw (same o p q) at e
-
 pub returns-then-out-len : goal.returns-then-out-len
 returns-then-out-len c =
     let w = c.sent-sent.result in
@@ -131,9 +124,9 @@ returns c =
     let l6 : IfSome w.ipv6_address (λ bs. length bs ≡ 16) = search rules in
     let e = rw c.given.ensures at c.ends-ends.ensures.value in
     let teid : c.map.result ≡ option_map (λ t. t.0) w.teid = search rules in
-    let port : c.map-2.result ≡ option_map (λ x. x) w.port_number = search rules in
-    let ctag : c.map-3.result ≡ option_map (λ x. x) w.ctag = search rules in
-    let stag : c.map-4.result ≡ option_map (λ x. x) w.stag = search rules in
-    let all = row w _ e l4 l6 _ _ _ _ _ _ _ _ _ _ _ c.byte.ensures teid c.put_byte.ensures c.put_byte-2.ensures c.put_number_if.ensures c.put_address.ensures c.put_address-2.ensures (put_same _ _ _ _ _ _ port c.put_number_if-2.ensures) (put_same _ _ _ _ _ _ ctag c.put_number_if-3.ensures) (put_same _ _ _ _ _ _ stag c.put_number_if-4.ensures) in
+    let port : c.map-2.result ≡ w.port_number = search rules in
+    let ctag : c.map-3.result ≡ w.ctag = search rules in
+    let stag : c.map-4.result ≡ w.stag = search rules in
+    let all = row w _ e l4 l6 _ _ _ _ _ _ _ _ _ _ _ c.byte.ensures teid c.put_byte.ensures c.put_byte-2.ensures c.put_number_if.ensures c.put_address.ensures c.put_address-2.ensures (rw port at c.put_number_if-2.ensures) (rw ctag at c.put_number_if-3.ensures) (rw stag at c.put_number_if-4.ensures) in
     let both = all_put c.args.out.now _ _ (long w _ e l4 l6 _ q) _ c.if-out-len.false (put_so w _ e l4 l6 _ q _ _ all) in
     record { value = both.0; out_after = both.1 }
