@@ -7,6 +7,7 @@ mod read;
 mod write;
 
 pub use build::{PfdContentsAdded, PfdContentsBuilder};
+pub use read::read_fields;
 pub use text_fields::TextList;
 pub use texts::Text;
 
