@@ -2,8 +2,8 @@
 use Prim.Native.Nat.{ℕ, ◌≤◌, ◌<◌}
 use mathlib.Core.Path.{◌≡◌, ap, sym, ◌∙◌}
 use mathlib.Core.List.{List}
-use Rattle.std.specs.Prelude.{None}
-use borrow.Author.Tests.{le-leb, lt-leb, ne_eqb}
+use Rattle.std.specs.Prelude.{Option, None, Some}
+use borrow.Author.Tests.{le-leb, lt-leb}
 use lib.ListN.{length}
 use Rattle.answer.specs.declared.Answer.TheVariants.{Done, InputTooLong, BadText, OutputTooLong, NoRoom}
 use Rattle.answer.specs.declared.Written.{Written}
@@ -25,12 +25,12 @@ module _ (t : List ℕ) (r : PfdContents) (d : List ℕ) where
   unfolding write_refusal ◌then◌ answered stored
   long w h q = (rw (lt-leb _ _ h) q, rw (lt-leb _ _ h))
 
-  module _ (f : length t ≤ 65535) (b : ℕ) (e : as_refusal b ≡ tested t r) where
-    pub bad : (w : Written) → (b ≡ 0 → ⊥) → w ≡ record { answer = BadText b; len = 0 } → Ends w d
+  module _ (f : length t ≤ 65535) (b : Option ℕ) (e : as_refusal b ≡ tested t r) where
+    pub bad : (w : Written) (k : ℕ) → b ≡ Some k → w ≡ record { answer = BadText k; len = 0 } → Ends w d
     unfolding write_refusal ◌then◌ answered stored
-    bad w h q = (rw (le-leb _ _ f, ← e, ne_eqb b 0 h) q, rw (le-leb _ _ f, ← e, ne_eqb b 0 h))
+    bad w k h q = (rw (le-leb _ _ f, ← e, h) q, rw (le-leb _ _ f, ← e, h))
 
-    module _ (z : b ≡ 0) (ok : Bytes t) (n : ℕ) (k : n ≡ length (wire_by_runs t r)) where
+    module _ (z : b ≡ None) (ok : Bytes t) (n : ℕ) (k : n ≡ length (wire_by_runs t r)) where
       passed : tested t r ≡ None
       passed = sym e ∙ ap as_refusal z
 

@@ -4,7 +4,7 @@ use native.Mathlib.Omega.{arith}
 use mathlib.Core.Path.{◌≡◌, ap, sym, refl, ◌∙◌}
 use mathlib.Core.List.{List, [], ◌∷◌}
 use mathlib.Core.Bool.{Bool, true, false, not}
-use borrow.Author.Tests.{le-leb, lt-leb, eq-eqb, ne_eqb}
+use borrow.Author.Tests.{le-leb, lt-leb}
 use lib.ListN.{length}
 use Rattle.answer.specs.declared.Answer.TheVariants.{Done, InputTooLong, BadText, Unbuilt}
 use Rattle.octets.specs.Octets.{if_set, flag_byte}
@@ -16,7 +16,8 @@ use Rattle.pfd_contents.specs.Builder.{added_to, built_record, fresh, built, any
 use Rattle.text_fields.specs.declared.TextList.{TextList}
 use Rattle.pfd_contents.specs.declared.PfdContents.{PfdContents}
 use Rattle.pfd_contents.specs.declared.build.PfdContentsBuilder.{PfdContentsBuilder}
-use Rattle.pfd_contents.specs.declared.build.PfdContentsBuilt.{PfdContentsBuilt}
+use Rattle.answer.specs.declared.Built.{Built}
+use Rattle.std.specs.Prelude.{Option, None, Some, is_some}
 use Rattle.text_fields.specs.declared.add.ListAdded.{ListAdded}
 
 -- ---- adding
@@ -29,17 +30,25 @@ add_to set a step b e q = rw q (ap (added_to set) e)
 -- ---- building
 
 -- the flags of a builder
-pub flagged : (b : PfdContentsBuilder) (f : ℕ) (e₁ e₂ e₃ : Bool) → e₁ ≡ is_empty b.additional_flow_description → e₂ ≡ is_empty b.additional_url → e₃ ≡ is_empty b.additional_domain_name_and_protocol
-    → f ≡ flag_byte (b.flow_description.given ∷ b.url.given ∷ b.domain_name.given ∷ b.custom_pfd_content.given ∷ b.domain_name_protocol.given ∷ not e₁ ∷ not e₂ ∷ not e₃ ∷ [])
+pub flagged : (b : PfdContentsBuilder) (f : ℕ) {g₁ g₂ g₃ g₄ g₅ e₁ e₂ e₃ : Bool}
+    → g₁ ≡ is_some b.flow_description
+    → g₂ ≡ is_some b.url
+    → g₃ ≡ is_some b.domain_name
+    → g₄ ≡ is_some b.custom_pfd_content
+    → g₅ ≡ is_some b.domain_name_protocol
+    → e₁ ≡ is_empty b.additional_flow_description
+    → e₂ ≡ is_empty b.additional_url
+    → e₃ ≡ is_empty b.additional_domain_name_and_protocol
+    → f ≡ flag_byte (g₁ ∷ g₂ ∷ g₃ ∷ g₄ ∷ g₅ ∷ not e₁ ∷ not e₂ ∷ not e₃ ∷ [])
     → pfd_of f b.flow_description b.url b.domain_name b.custom_pfd_content b.domain_name_protocol b.additional_flow_description b.additional_url b.additional_domain_name_and_protocol ≡ built_record b
 unfolding built_record
-flagged b f e₁ e₂ e₃ p₁ p₂ p₃ q = rw (q, p₁, p₂, p₃)
+flagged b f q₁ q₂ q₃ q₄ q₅ p₁ p₂ p₃ q = rw (q, q₁, q₂, q₃, q₄, q₅, p₁, p₂, p₃)
 
 -- a constructor is a build of what is set
-pub set_one : (set : PfdContentsBuilder → PfdContentsBuilder) (t : List ℕ) (r : PfdContentsBuilt) (b₀ b₁ : PfdContentsBuilder) → b₀ ≡ fresh → b₁ ≡ set b₀ → r ≡ built t b₁ → r ≡ built t (set fresh)
+pub set_one : (set : PfdContentsBuilder → PfdContentsBuilder) (t : List ℕ) (r : Built PfdContents) (b₀ b₁ : PfdContentsBuilder) → b₀ ≡ fresh → b₁ ≡ set b₀ → r ≡ built t b₁ → r ≡ built t (set fresh)
 set_one set t r b₀ b₁ e₀ e₁ q = q ∙ ap (built t) (e₁ ∙ ap set e₀)
 
-pub set_two : (set set' : PfdContentsBuilder → PfdContentsBuilder) (t : List ℕ) (r : PfdContentsBuilt) (b₀ b₁ b₂ : PfdContentsBuilder) → b₀ ≡ fresh → b₁ ≡ set b₀ → b₂ ≡ set' b₁ → r ≡ built t b₂ → r ≡ built t (set' (set fresh))
+pub set_two : (set set' : PfdContentsBuilder → PfdContentsBuilder) (t : List ℕ) (r : Built PfdContents) (b₀ b₁ b₂ : PfdContentsBuilder) → b₀ ≡ fresh → b₁ ≡ set b₀ → b₂ ≡ set' b₁ → r ≡ built t b₂ → r ≡ built t (set' (set fresh))
 set_two set set' t r b₀ b₁ b₂ e₀ e₁ e₂ q = q ∙ ap (built t) (e₂ ∙ ap set' (e₁ ∙ ap set e₀))
 
 -- no flag is set just where nothing is there
@@ -56,27 +65,27 @@ one_set (true ∷ fs) h = refl
 one_set (false ∷ fs) h = one_set fs (λ e. h (omega arith))
 
 module _ (t : List ℕ) (b : PfdContentsBuilder) where
-  pub build_long : (r : PfdContentsBuilt) → 65535 < length t → r ≡ unbuilt (InputTooLong (length t)) → r ≡ built t b
+  pub build_long : (r : Built PfdContents) → 65535 < length t → r ≡ unbuilt (InputTooLong (length t)) → r ≡ built t b
   unfolding built build_refusal built_by ◌then◌
   build_long r h q = rw (lt-leb _ _ h) q
 
-  module _ (f : length t ≤ 65535) (x : PfdContents) (s : x ≡ built_record b) (n : ℕ) (e : as_refusal n ≡ tested t x) where
+  module _ (f : length t ≤ 65535) (x : PfdContents) (s : x ≡ built_record b) (n : Option ℕ) (e : as_refusal n ≡ tested t x) where
     e' : as_refusal n ≡ tested t (built_record b)
     e' = e ∙ ap (tested t) s
 
-    pub build_bad : (r : PfdContentsBuilt) → (n ≡ 0 → ⊥) → r ≡ unbuilt (BadText n) → r ≡ built t b
+    pub build_bad : (r : Built PfdContents) (k : ℕ) → n ≡ Some k → r ≡ unbuilt (BadText k) → r ≡ built t b
     unfolding built build_refusal built_by ◌then◌
-    build_bad r h q = rw (le-leb _ _ f, ← e', ne_eqb n 0 h) q
+    build_bad r k h q = rw (le-leb _ _ f, ← e', h) q
 
-    module _ (z : n ≡ 0) where
+    module _ (z : n ≡ None) where
       flags_are : x.flags ≡ flag_byte (present b)
       unfolding built_record
       flags_are = ap (λ (y : PfdContents). y.flags) s
 
-      pub build_none : (r : PfdContentsBuilt) → x.flags ≡ 0 → r ≡ unbuilt (Unbuilt 6) → r ≡ built t b
+      pub build_none : (r : Built PfdContents) → x.flags ≡ 0 → r ≡ unbuilt (Unbuilt 6) → r ≡ built t b
       unfolding built build_refusal built_by ◌then◌
-      build_none r h q = rw (le-leb _ _ f, ← e', eq-eqb n 0 z, none_set (present b) (sym flags_are ∙ h)) q
+      build_none r h q = rw (le-leb _ _ f, ← e', z, none_set (present b) (sym flags_are ∙ h)) q
 
       pub build_done : (x.flags ≡ 0 → ⊥) → record { answer = Done; «record» = x } ≡ built t b
       unfolding built build_refusal built_by ◌then◌
-      build_done h = rw (le-leb _ _ f, ← e', eq-eqb n 0 z, one_set (present b) (λ k. h (flags_are ∙ k)), ← s)
+      build_done h = rw (le-leb _ _ f, ← e', z, one_set (present b) (λ k. h (flags_are ∙ k)), ← s)

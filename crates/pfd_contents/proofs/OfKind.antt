@@ -4,7 +4,8 @@ use native.Mathlib.Omega.{arith}
 use mathlib.Core.Path.{◌≡◌, refl, sym, ap, ap₂, ◌∙◌}
 use mathlib.Core.Bool.{Bool, true, false, ◌||◌}
 use mathlib.Core.List.{List, [], ◌∷◌, ◌++◌}
-use Rattle.std.specs.Prelude.{None}
+use Rattle.std.specs.Prelude.{Option, None, Result, Ok, Err}
+use Rattle.answer.specs.declared.Read.{Read}
 use lib.Bits.{bit_and, and_mask, and_zero_r}
 use lib.Dec.{leb}
 use lib.ListN.{length, get_or, take}
@@ -19,12 +20,13 @@ use Rattle.kind.proofs.Laws.{length_clear, bytes_clear, clear_clear, Alike, alik
 use Rattle.kind.specs.Demand3.{Demand3}
 use Rattle.kind.proofs.Demand3.{demand3}
 use Rattle.kind.specs.Write.{◌then◌}
-use Rattle.text_fields.specs.Fields.{Step, took, broke, text, list, is_maybe, is_list, text_meaning, list_meaning}
+use Rattle.text_fields.specs.Fields.{took, text, list, is_maybe, is_list, text_meaning, list_meaning}
 use Rattle.pfd_contents.specs.PfdContents.{◌into◌, refused, read_fields, read, accepted, pfd_of, wire, meaning, tested, Value, reader, write_refusal}
-use Rattle.text_fields.specs.declared.MaybeText.{MaybeText}
+use Rattle.texts.specs.declared.Text.{Text}
+use Rattle.text_fields.specs.declared.Fault.{Fault}
+use Rattle.text_fields.specs.declared.Step.{Step}
 use Rattle.text_fields.specs.declared.TextList.{TextList}
 use Rattle.pfd_contents.specs.declared.PfdContents.{PfdContents}
-use Rattle.pfd_contents.specs.declared.read.PfdContentsRead.{PfdContentsRead}
 use Rattle.text_fields.specs.declared.Fault.TheVariants.{Past, Garbled}
 use Rattle.text_fields.proofs.Meant.{join}
 use Rattle.text_fields.proofs.Carry.{Cut, text_kept, list_kept}
@@ -32,14 +34,14 @@ use Rattle.text_fields.proofs.Carry.{Cut, text_kept, list_kept}
 -- ---- what an accepted payload has
 
 -- a step that didn't end the reading took something
-taking : {A B : Type 0} (x : Step A) (rest : A → ℕ → PfdContentsRead) → (x into rest).answer ≡ Done → ((got : A) (next : ℕ) → x ≡ took got next → (rest got next).answer ≡ Done → B) → B
+taking : {A B : Type 0} (x : Result (Step A) Fault) (rest : A → ℕ → Read PfdContents) → (x into rest).answer ≡ Done → ((got : A) (next : ℕ) → x ≡ took got next → (rest got next).answer ≡ Done → B) → B
 unfolding refused
-taking (took x at) rest h then-so = then-so x at refl h
-taking (broke (Past e l)) rest h then-so = let z : ◌≡◌ {A = ℕ} 0 1 = cc in absurd (omega arith)
-taking (broke (Garbled p b)) rest h then-so = let z : ◌≡◌ {A = ℕ} 0 1 = cc in absurd (omega arith)
+taking (Ok step) rest h then-so = then-so step.taken step.next refl h
+taking (Err (Past e l)) rest h then-so = let z : ◌≡◌ {A = ℕ} 0 1 = cc in absurd (omega arith)
+taking (Err (Garbled p b)) rest h then-so = let z : ◌≡◌ {A = ℕ} 0 1 = cc in absurd (omega arith)
 
 -- eight steps that took something are a reading that is done
-replay : (s : List ℕ) (f : ℕ) {x₁ x₂ x₃ x₄ x₅ : MaybeText} {x₆ x₇ x₈ : TextList} {n₁ n₂ n₃ n₄ n₅ n₆ n₇ n₈ : ℕ}
+replay : (s : List ℕ) (f : ℕ) {x₁ x₂ x₃ x₄ x₅ : Option Text} {x₆ x₇ x₈ : TextList} {n₁ n₂ n₃ n₄ n₅ n₆ n₇ n₈ : ℕ}
     → text s (bit 0 f) 2 ≡ took x₁ n₁
     → text s (bit 1 f) n₁ ≡ took x₂ n₂
     → text s (bit 2 f) n₂ ≡ took x₃ n₃
@@ -109,7 +111,7 @@ all_same : (s t : List ℕ) (r : PfdContents)
 unfolding meaning
 all_same s t r e₁ e₂ e₃ e₄ e₅ e₆ e₇ e₈ = rw (e₁, e₂, e₃, e₄, e₅, e₆, e₇, e₈)
 
-ended : (s : List ℕ) (f : ℕ) → Bytes s → 2 ≤ length s → {x₁ x₂ x₃ x₄ x₅ : MaybeText} {x₆ x₇ x₈ : TextList} {n₁ n₂ n₃ n₄ n₅ n₆ n₇ n₈ : ℕ}
+ended : (s : List ℕ) (f : ℕ) → Bytes s → 2 ≤ length s → {x₁ x₂ x₃ x₄ x₅ : Option Text} {x₆ x₇ x₈ : TextList} {n₁ n₂ n₃ n₄ n₅ n₆ n₇ n₈ : ℕ}
     → text s (bit 0 f) 2 ≡ took x₁ n₁
     → text s (bit 1 f) n₁ ≡ took x₂ n₂
     → text s (bit 2 f) n₂ ≡ took x₃ n₃
@@ -231,10 +233,10 @@ module _ {s : List ℕ} {v : Value} {n : ℕ} (r : Reads reader s v n) where
   is_read = limits.2 ∙ end.reads
 
   is_used : end.n ≡ n
-  is_used = ap (λ (x : PfdContentsRead). x.used) (sym is_read) ∙ r.used
+  is_used = ap (λ (x : Read PfdContents). x.used) (sym is_read) ∙ r.used
 
   is_value : meaning s end.r ≡ v
-  is_value = ap (λ (x : PfdContentsRead). meaning s x.«record») (sym is_read) ∙ r.value
+  is_value = ap (λ (x : Read PfdContents). meaning s x.«record») (sym is_read) ∙ r.value
 
   from : 2 ≤ n
   from = rw is_used at end.from
@@ -253,7 +255,7 @@ module _ {s : List ℕ} {v : Value} {n : ℕ} (r : Reads reader s v n) where
   pub writable : write_refusal s (read s).«record» ≡ None
   unfolding write_refusal ◌then◌
   writable =
-      let e : (read s).«record» ≡ end.r = ap (λ (x : PfdContentsRead). x.«record») is_read in
+      let e : (read s).«record» ≡ end.r = ap (λ (x : Read PfdContents). x.«record») is_read in
       let l : length (wire (meaning s end.r)) ≡ n =
       ap length (ap wire is_value ∙ rewritten) ∙ length_clear kept_bits (take n s) ∙ length-take-le n s within in
       let h : n ≤ 65535 = upto within limits.0 in
@@ -273,9 +275,9 @@ module _ {s : List ℕ} {v : Value} {n : ℕ} (r : Reads reader s v n) where
       rw l
       (record {
         bytes = bytes_clear kept_bits (take n s) (bytes_take n s r.bytes);
-        done = ap (λ (x : PfdContentsRead). x.answer) same ∙ r.done;
-        value = ap (λ (x : PfdContentsRead). meaning t x.«record») (same ∙ is_read) ∙ (end.again cut).1 ∙ is_value;
-        used = ap (λ (x : PfdContentsRead). x.used) same ∙ r.used;
+        done = ap (λ (x : Read PfdContents). x.answer) same ∙ r.done;
+        value = ap (λ (x : Read PfdContents). meaning t x.«record») (same ∙ is_read) ∙ (end.again cut).1 ∙ is_value;
+        used = ap (λ (x : Read PfdContents). x.used) same ∙ r.used;
       })
 
 abbrev pub kind : Kind

@@ -1,11 +1,10 @@
 -- Stores one behind the other, and the five answers of the writer. No contract cites this file.
-use Prim.Native.Nat.{ℕ, zero, suc, ◌+◌, ◌≤◌}
+use Prim.Native.Nat.{ℕ, ◌+◌, ◌≤◌}
 use native.Mathlib.Omega.{arith}
 use mathlib.Core.Path.{◌≡◌, ap, refl, ◌∙◌}
 use mathlib.Core.List.{List, [], ◌∷◌}
-use mathlib.Core.Bool.{Bool, true, false, not}
+use mathlib.Core.Bool.{Bool, true, false}
 use Rattle.std.specs.Prelude.{Option, None, Some}
-use lib.Dec.{eqb-suc-zero}
 use lib.ListN.{length, take, drop, length-append, length-take, length-drop}
 use Rattle.answer.specs.declared.Answer.{Answer}
 use Rattle.octets.specs.Octets.{put}
@@ -14,30 +13,30 @@ use Rattle.text_fields.specs.Fields.{bad, is_maybe, is_list}
 use Rattle.text_fields.specs.Steps.{first_bad, text_bytes, run_bytes}
 use Rattle.pfd_contents.specs.PfdContents.{tested}
 use Rattle.pfd_contents.specs.Steps.{as_refusal, wire_by_runs}
-use Rattle.text_fields.proofs.Stores.{no_text_law, some_text, field_length, Stored, more, begun}
-use Rattle.text_fields.specs.declared.MaybeText.{MaybeText}
+use Rattle.text_fields.proofs.Stores.{some_text, field_length, Stored, more, begun}
+use Rattle.texts.specs.declared.Text.{Text}
 use Rattle.text_fields.specs.declared.TextList.{TextList}
 use Rattle.pfd_contents.specs.declared.PfdContents.{PfdContents}
 
 -- ---- the number of a field that can't be, and 6
 
 -- one more field
-one_more : (before k : ℕ) (good : Bool) → as_refusal (first_bad before good (suc k)) ≡ (as_refusal before then bad (suc k) good)
+one_more : (before : Option ℕ) (k : ℕ) (good : Bool) → as_refusal (first_bad before good k) ≡ (as_refusal before then bad k good)
 unfolding ◌then◌ first_bad
-one_more zero k true = refl
-one_more zero k false = rw (eqb-suc-zero k)
-one_more (suc b) k good = simp (eqb-suc-zero b)
+one_more None k true = refl
+one_more None k false = refl
+one_more (Some b) k good = refl
 
 then_assoc : (a b c : Option Answer) → ((a then b) then c) ≡ (a then (b then c))
 unfolding ◌then◌
 then_assoc None b c = refl
 then_assoc (Some x) b c = refl
 
-after : (before r k : ℕ) (good : Bool) {x : Option Answer} → r ≡ first_bad before good (suc k) → as_refusal before ≡ x → as_refusal r ≡ (x then bad (suc k) good)
-after before r k good e p = ap as_refusal e ∙ one_more before k good ∙ ap (λ (y : Option Answer). y then bad (suc k) good) p
+after : (before r : Option ℕ) (k : ℕ) (good : Bool) {x : Option Answer} → r ≡ first_bad before good k → as_refusal before ≡ x → as_refusal r ≡ (x then bad k good)
+after before r k good e p = ap as_refusal e ∙ one_more before k good ∙ ap (λ (y : Option Answer). y then bad k good) p
 
-pub all_tested : (t : List ℕ) (r : PfdContents) {b₁ b₂ b₃ b₄ b₅ b₆ b₇ b₈ : ℕ}
-    → b₁ ≡ first_bad 0 (is_maybe t r.flow_description) 11
+pub all_tested : (t : List ℕ) (r : PfdContents) {b₁ b₂ b₃ b₄ b₅ b₆ b₇ b₈ : Option ℕ}
+    → b₁ ≡ first_bad None (is_maybe t r.flow_description) 11
     → b₂ ≡ first_bad b₁ (is_maybe t r.url) 12
     → b₃ ≡ first_bad b₂ (is_maybe t r.domain_name) 13
     → b₄ ≡ first_bad b₃ (is_maybe t r.custom_pfd_content) 14
@@ -48,28 +47,24 @@ pub all_tested : (t : List ℕ) (r : PfdContents) {b₁ b₂ b₃ b₄ b₅ b₆
     → as_refusal b₈ ≡ tested t r
 unfolding tested ◌then◌
 all_tested t r {b₁} {b₂} {b₃} {b₄} {b₅} {b₆} {b₇} {b₈} e₁ e₂ e₃ e₄ e₅ e₆ e₇ e₈ =
-    after b₇ b₈ 17 (is_list t r.additional_domain_name_and_protocol) e₈
-    (after b₆ b₇ 16 (is_list t r.additional_url) e₇
-    (after b₅ b₆ 15 (is_list t r.additional_flow_description) e₆
-    (after b₄ b₅ 14 (is_maybe t r.domain_name_protocol) e₅
-    (after b₃ b₄ 13 (is_maybe t r.custom_pfd_content) e₄
-    (after b₂ b₃ 12 (is_maybe t r.domain_name) e₃
-    (after b₁ b₂ 11 (is_maybe t r.url) e₂
-    (after 0 b₁ 10 (is_maybe t r.flow_description) e₁ refl)))))))
+    after b₇ b₈ 18 (is_list t r.additional_domain_name_and_protocol) e₈
+    (after b₆ b₇ 17 (is_list t r.additional_url) e₇
+    (after b₅ b₆ 16 (is_list t r.additional_flow_description) e₆
+    (after b₄ b₅ 15 (is_maybe t r.domain_name_protocol) e₅
+    (after b₃ b₄ 14 (is_maybe t r.custom_pfd_content) e₄
+    (after b₂ b₃ 13 (is_maybe t r.domain_name) e₃
+    (after b₁ b₂ 12 (is_maybe t r.url) e₂
+    (after None b₁ 11 (is_maybe t r.flow_description) e₁ refl)))))))
     ∙ simp then_assoc
 
 -- ---- how many bytes a text and a list are written as
 
-module _ (t : List ℕ) (x : MaybeText) where
-  pub none_width : not x.given ≡ true → 0 ≡ length (text_bytes t x)
-  none_width h = rw (no_text_law t x h)
+module _ (t : List ℕ) (x : Text) (p : List ℕ) (e : p ≡ take x.len (drop x.place t)) where
+  pub text_width : length p + 2 ≡ length (text_bytes t (Some x))
+  text_width = rw (some_text t x e) (omega (arith, field_length p))
 
-  module _ (p : List ℕ) (h : not x.given ≡ false) (e : p ≡ take x.len (drop x.place t)) where
-    pub text_width : length p + 2 ≡ length (text_bytes t x)
-    text_width = rw (some_text t x p h e) (omega (arith, field_length p))
-
-    pub text_small : length t ≤ 65535 → length p + 2 ≤ 65537
-    text_small g = omega (arith, ap length e, length-take x.len (drop x.place t), length-drop x.place t)
+  pub text_small : length t ≤ 65535 → length p + 2 ≤ 65537
+  text_small g = omega (arith, ap length e, length-take x.len (drop x.place t), length-drop x.place t)
 
 module _ (t : List ℕ) (x : TextList) (p : List ℕ) (e : p ≡ take x.len (drop x.place t)) where
   pub list_width : length p ≡ length (run_bytes t x)

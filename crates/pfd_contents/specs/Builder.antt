@@ -1,24 +1,24 @@
 -- The builder of PFD Contents, as document 01 has it.
-use Rattle.std.specs.Prelude.{ℕ, Bool, false, not, ◌||◌, List, [], ◌∷◌, length}
+use Rattle.std.specs.Prelude.{ℕ, Bool, false, not, ◌||◌, List, [], ◌∷◌, length, is_some}
 use Rattle.std.specs.Prelude.{Option, None, Some}
 use Rattle.answer.specs.declared.Answer.{Answer}
+use Rattle.answer.specs.declared.Built.{Built}
 use Rattle.answer.specs.declared.Answer.TheVariants.{Done, Unbuilt}
 use Rattle.octets.specs.Octets.{pick, flag_byte}
 use Rattle.kind.specs.Write.{◌then◌, too_long_input}
-use Rattle.text_fields.specs.Fields.{no_text, no_list, is_empty}
+use Rattle.text_fields.specs.Fields.{no_list, is_empty}
 use Rattle.pfd_contents.specs.PfdContents.{pfd_of, tested, empty_pfd}
-use Rattle.text_fields.specs.declared.MaybeText.{MaybeText}
+use Rattle.texts.specs.declared.Text.{Text}
 use Rattle.text_fields.specs.declared.TextList.{TextList}
 use Rattle.pfd_contents.specs.declared.PfdContents.{PfdContents}
 use Rattle.pfd_contents.specs.declared.build.PfdContentsBuilder.{PfdContentsBuilder}
-use Rattle.pfd_contents.specs.declared.build.PfdContentsBuilt.{PfdContentsBuilt}
 use Rattle.pfd_contents.specs.declared.build.PfdContentsAdded.{PfdContentsAdded}
 use Rattle.text_fields.specs.declared.add.ListAdded.{ListAdded}
 
 -- ---- setters
 
 -- a builder by its fields, in wire order
-abbrev pub holding : MaybeText → MaybeText → MaybeText → MaybeText → MaybeText → TextList → TextList → TextList → PfdContentsBuilder
+abbrev pub holding : Option Text → Option Text → Option Text → Option Text → Option Text → TextList → TextList → TextList → PfdContentsBuilder
 holding flow url domain custom protocol flows urls names =
     record {
       flow_description = flow;
@@ -33,22 +33,22 @@ holding flow url domain custom protocol flows urls names =
 
 -- all absent and empty
 abbrev pub fresh : PfdContentsBuilder
-fresh = holding no_text no_text no_text no_text no_text no_list no_list no_list
+fresh = holding None None None None None no_list no_list no_list
 
 -- a setter changes its own field and no other
-abbrev pub with_flow : PfdContentsBuilder → MaybeText → PfdContentsBuilder
+abbrev pub with_flow : PfdContentsBuilder → Option Text → PfdContentsBuilder
 with_flow b x = holding x b.url b.domain_name b.custom_pfd_content b.domain_name_protocol b.additional_flow_description b.additional_url b.additional_domain_name_and_protocol
 
-abbrev pub with_url : PfdContentsBuilder → MaybeText → PfdContentsBuilder
+abbrev pub with_url : PfdContentsBuilder → Option Text → PfdContentsBuilder
 with_url b x = holding b.flow_description x b.domain_name b.custom_pfd_content b.domain_name_protocol b.additional_flow_description b.additional_url b.additional_domain_name_and_protocol
 
-abbrev pub with_domain : PfdContentsBuilder → MaybeText → PfdContentsBuilder
+abbrev pub with_domain : PfdContentsBuilder → Option Text → PfdContentsBuilder
 with_domain b x = holding b.flow_description b.url x b.custom_pfd_content b.domain_name_protocol b.additional_flow_description b.additional_url b.additional_domain_name_and_protocol
 
-abbrev pub with_custom : PfdContentsBuilder → MaybeText → PfdContentsBuilder
+abbrev pub with_custom : PfdContentsBuilder → Option Text → PfdContentsBuilder
 with_custom b x = holding b.flow_description b.url b.domain_name x b.domain_name_protocol b.additional_flow_description b.additional_url b.additional_domain_name_and_protocol
 
-abbrev pub with_protocol : PfdContentsBuilder → MaybeText → PfdContentsBuilder
+abbrev pub with_protocol : PfdContentsBuilder → Option Text → PfdContentsBuilder
 with_protocol b x = holding b.flow_description b.url b.domain_name b.custom_pfd_content x b.additional_flow_description b.additional_url b.additional_domain_name_and_protocol
 
 abbrev pub with_flows : PfdContentsBuilder → TextList → PfdContentsBuilder
@@ -71,11 +71,11 @@ added_to set a = record { answer = a.answer; builder = set a.list }
 -- where a field is present or a list has an entry, in wire order
 abbrev pub present : PfdContentsBuilder → List Bool
 present b =
-    b.flow_description.given
-    ∷ b.url.given
-    ∷ b.domain_name.given
-    ∷ b.custom_pfd_content.given
-    ∷ b.domain_name_protocol.given
+    is_some b.flow_description
+    ∷ is_some b.url
+    ∷ is_some b.domain_name
+    ∷ is_some b.custom_pfd_content
+    ∷ is_some b.domain_name_protocol
     ∷ not (is_empty b.additional_flow_description)
     ∷ not (is_empty b.additional_url)
     ∷ not (is_empty b.additional_domain_name_and_protocol)
@@ -95,12 +95,12 @@ unfoldable pub build_refusal : List ℕ → PfdContentsBuilder → Option Answer
 build_refusal texts b = too_long_input (length texts) then tested texts (built_record b) then pick (any (present b)) None (Some (Unbuilt 6))
 
 -- a refused build: the empty record
-abbrev pub unbuilt : Answer → PfdContentsBuilt
+abbrev pub unbuilt : Answer → Built PfdContents
 unbuilt a = record { answer = a; «record» = empty_pfd }
 
-unfoldable pub built_by : Option Answer → PfdContents → PfdContentsBuilt
+unfoldable pub built_by : Option Answer → PfdContents → Built PfdContents
 built_by None r = record { answer = Done; «record» = r }
 built_by (Some a) r = unbuilt a
 
-unfoldable pub built : List ℕ → PfdContentsBuilder → PfdContentsBuilt
+unfoldable pub built : List ℕ → PfdContentsBuilder → Built PfdContents
 built texts b = built_by (build_refusal texts b) (built_record b)

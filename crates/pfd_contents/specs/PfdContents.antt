@@ -1,16 +1,18 @@
 -- PFD Contents, as document 01 has it.
 use Rattle.std.specs.Prelude.{ℕ, false, ◌||◌, List, [], ◌∷◌, ◌++◌, leb, length, get_or}
-use Rattle.std.specs.Prelude.{Option}
+use Rattle.std.specs.Prelude.{Option, None, Result, Ok, Err}
+use Rattle.answer.specs.declared.Read.{Read}
 use Rattle.answer.specs.declared.Answer.{Answer}
 use Rattle.answer.specs.declared.Answer.TheVariants.{Done, Short, InputTooLong}
 use Rattle.octets.specs.Octets.{pick, bit}
 use Rattle.kind.specs.Kind.{Reader}
 use Rattle.kind.specs.Write.{◌then◌, too_long_input, too_long_output}
-use Rattle.text_fields.specs.Fields.{text, text_meaning, list_meaning, list, text_wire, list_wire, no_text, no_list, answer_of, Step, took, broke, bad, is_maybe, is_list}
-use Rattle.text_fields.specs.declared.MaybeText.{MaybeText}
+use Rattle.text_fields.specs.Fields.{text, text_meaning, list_meaning, list, text_wire, list_wire, no_list, answer_of, bad, is_maybe, is_list}
+use Rattle.texts.specs.declared.Text.{Text}
+use Rattle.text_fields.specs.declared.Fault.{Fault}
+use Rattle.text_fields.specs.declared.Step.{Step}
 use Rattle.text_fields.specs.declared.TextList.{TextList}
 use Rattle.pfd_contents.specs.declared.PfdContents.{PfdContents}
-use Rattle.pfd_contents.specs.declared.read.PfdContentsRead.{PfdContentsRead}
 
 -- ---- what a record means
 
@@ -57,7 +59,7 @@ wire v =
 
 -- ---- reading
 
-abbrev pub pfd_of : ℕ → MaybeText → MaybeText → MaybeText → MaybeText → MaybeText → TextList → TextList → TextList → PfdContents
+abbrev pub pfd_of : ℕ → Option Text → Option Text → Option Text → Option Text → Option Text → TextList → TextList → TextList → PfdContents
 pfd_of f flow url domain custom protocol flows urls names =
     record {
       flags = f;
@@ -72,23 +74,23 @@ pfd_of f flow url domain custom protocol flows urls names =
     }
 
 abbrev pub empty_pfd : PfdContents
-empty_pfd = pfd_of 0 no_text no_text no_text no_text no_text no_list no_list no_list
+empty_pfd = pfd_of 0 None None None None None no_list no_list no_list
 
 -- a refused read: the empty record and used 0
-unfoldable pub refused : Answer → PfdContentsRead
+unfoldable pub refused : Answer → Read PfdContents
 refused a = record { answer = a; used = 0; «record» = empty_pfd }
 
-abbrev pub accepted : ℕ → PfdContents → PfdContentsRead
+abbrev pub accepted : ℕ → PfdContents → Read PfdContents
 accepted n r = record { answer = Done; used = n; «record» = r }
 
 -- a fault ends the reading
 infixr 10 ◌into◌
-abbrev pub ◌into◌ : {A : Type 0} → Step A → (A → ℕ → PfdContentsRead) → PfdContentsRead
-took x at into rest = rest x at
-broke fault into rest = refused (answer_of fault)
+abbrev pub ◌into◌ : {A : Type 0} → Result (Step A) Fault → (A → ℕ → Read PfdContents) → Read PfdContents
+Ok step into rest = rest step.taken step.next
+Err fault into rest = refused (answer_of fault)
 
 -- the eight fields in wire order, behind the flags f and the spare byte
-unfoldable pub read_fields : List ℕ → ℕ → PfdContentsRead
+unfoldable pub read_fields : List ℕ → ℕ → Read PfdContents
 read_fields s f =
     text s (bit 0 f) 2 into λ flow at₁.
     text s (bit 1 f) at₁ into λ url at₂.
@@ -101,7 +103,7 @@ read_fields s f =
     accepted at₈ (pfd_of f flow url domain custom protocol flows urls names)
 
 -- the tests in their order: 5, the two bytes that come first, the fields
-unfoldable pub read : List ℕ → PfdContentsRead
+unfoldable pub read : List ℕ → Read PfdContents
 read s = pick (leb (length s) 65535) (pick (leb 2 (length s)) (read_fields s (get_or s 0 0)) (refused (Short 0 2 (length s)))) (refused (InputTooLong (length s)))
 
 abbrev pub reader : Reader Value

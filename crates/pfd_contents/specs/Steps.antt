@@ -1,10 +1,13 @@
--- What the private functions of the writer promise: nothing here is the paper's.
-use Rattle.std.specs.Prelude.{ℕ, List, [], ◌∷◌, ◌++◌, eqb}
-use Rattle.std.specs.Prelude.{Option, None, Some}
-use Rattle.octets.specs.Octets.{pick}
+-- What the row of the reader's steps and the private functions of the writer promise: nothing here is the paper's.
+use Rattle.std.specs.Prelude.{ℕ, List, [], ◌∷◌, ◌++◌}
+use Rattle.std.specs.Prelude.{Option, None, Some, Result}
 use Rattle.answer.specs.declared.Answer.{Answer}
+use Rattle.answer.specs.declared.Read.{Read}
 use Rattle.answer.specs.declared.Answer.TheVariants.{BadText}
 use Rattle.text_fields.specs.Steps.{text_bytes, run_bytes}
+use Rattle.text_fields.specs.declared.Fault.{Fault}
+use Rattle.text_fields.specs.declared.Step.{Step}
+use Rattle.pfd_contents.specs.PfdContents.{◌into◌, accepted}
 use Rattle.pfd_contents.specs.declared.PfdContents.{PfdContents}
 
 -- the written form with each list as the run that it is
@@ -20,6 +23,11 @@ wire_by_runs texts r =
     ++ run_bytes texts r.additional_url
     ++ run_bytes texts r.additional_domain_name_and_protocol
 
--- a field number that is refused with 6, where 0 is none
-abbrev pub as_refusal : ℕ → Option Answer
-as_refusal k = pick (eqb k 0) None (Some (BadText k))
+-- the number of a field that can't be is refused with 6
+abbrev pub as_refusal : Option ℕ → Option Answer
+as_refusal None = None
+as_refusal (Some k) = Some (BadText k)
+
+-- what the eight steps took, or the fault that one met, as a read
+abbrev pub as_read : Result (Step PfdContents) Fault → Read PfdContents
+as_read steps = steps into λ taken next. accepted next taken

@@ -4,17 +4,18 @@ ghost use Rattle.text_fields.specs.Fields.{text_of, added};
 ghost use Rattle.pfd_contents.specs.Builder.{fresh, with_flow, with_url, with_domain, with_custom, with_protocol, with_flows, with_urls, with_names, built_record, unbuilt, built, added_to};
 
 use crate::PfdContents;
-use answer::Answer;
-use text_fields::{MaybeText, TextList};
+use answer::{Answer, Built};
+use text_fields::TextList;
+use texts::Text;
 
 // The fields of a record to be. Which of them are present makes its flags.
 #[derive(Clone, Copy)]
 pub struct PfdContentsBuilder {
-    flow_description: MaybeText,
-    url: MaybeText,
-    domain_name: MaybeText,
-    custom_pfd_content: MaybeText,
-    domain_name_protocol: MaybeText,
+    flow_description: Option<Text>,
+    url: Option<Text>,
+    domain_name: Option<Text>,
+    custom_pfd_content: Option<Text>,
+    domain_name_protocol: Option<Text>,
     additional_flow_description: TextList,
     additional_url: TextList,
     additional_domain_name_and_protocol: TextList,
@@ -25,13 +26,6 @@ pub struct PfdContentsBuilder {
 pub struct PfdContentsAdded {
     pub answer: Answer,
     pub builder: PfdContentsBuilder,
-}
-
-// What a build answers; the record is empty where it is refused.
-#[derive(Clone, Copy)]
-pub struct PfdContentsBuilt {
-    pub answer: Answer,
-    pub record: PfdContents,
 }
 
 // The record of a builder: each flag where its field is present or its list has an entry.
@@ -47,11 +41,11 @@ fn with_flags(b: PfdContentsBuilder) -> PfdContents
     let additional_url = b.additional_url;
     let additional_domain_name_and_protocol = b.additional_domain_name_and_protocol;
     let flags = octets::flag_byte(
-        flow_description.given,
-        url.given,
-        domain_name.given,
-        custom_pfd_content.given,
-        domain_name_protocol.given,
+        flow_description.is_some(),
+        url.is_some(),
+        domain_name.is_some(),
+        custom_pfd_content.is_some(),
+        domain_name_protocol.is_some(),
         !additional_flow_description.is_empty(),
         !additional_url.is_empty(),
         !additional_domain_name_and_protocol.is_empty(),
@@ -69,10 +63,10 @@ fn with_flags(b: PfdContentsBuilder) -> PfdContents
     }
 }
 
-fn unbuilt(answer: Answer) -> PfdContentsBuilt
+fn unbuilt(answer: Answer) -> Built<PfdContents>
     ensures { result ≡ unbuilt answer }
 {
-    PfdContentsBuilt {
+    Built {
         answer,
         record: PfdContents::EMPTY,
     }
@@ -83,11 +77,11 @@ impl PfdContentsBuilder {
         ensures { result ≡ fresh }
     {
         PfdContentsBuilder {
-            flow_description: MaybeText::ABSENT,
-            url: MaybeText::ABSENT,
-            domain_name: MaybeText::ABSENT,
-            custom_pfd_content: MaybeText::ABSENT,
-            domain_name_protocol: MaybeText::ABSENT,
+            flow_description: None,
+            url: None,
+            domain_name: None,
+            custom_pfd_content: None,
+            domain_name_protocol: None,
             additional_flow_description: TextList::EMPTY,
             additional_url: TextList::EMPTY,
             additional_domain_name_and_protocol: TextList::EMPTY,
@@ -97,60 +91,35 @@ impl PfdContentsBuilder {
     pub fn flow_description(mut self, place: usize, len: usize) -> PfdContentsBuilder
         ensures { result ≡ with_flow self (text_of place len) }
     {
-        let text = MaybeText {
-            given: true,
-            place,
-            len,
-        };
-        self.flow_description = text;
+        self.flow_description = Some(Text { place, len });
         self
     }
 
     pub fn url(mut self, place: usize, len: usize) -> PfdContentsBuilder
         ensures { result ≡ with_url self (text_of place len) }
     {
-        let text = MaybeText {
-            given: true,
-            place,
-            len,
-        };
-        self.url = text;
+        self.url = Some(Text { place, len });
         self
     }
 
     pub fn domain_name(mut self, place: usize, len: usize) -> PfdContentsBuilder
         ensures { result ≡ with_domain self (text_of place len) }
     {
-        let text = MaybeText {
-            given: true,
-            place,
-            len,
-        };
-        self.domain_name = text;
+        self.domain_name = Some(Text { place, len });
         self
     }
 
     pub fn custom_pfd_content(mut self, place: usize, len: usize) -> PfdContentsBuilder
         ensures { result ≡ with_custom self (text_of place len) }
     {
-        let text = MaybeText {
-            given: true,
-            place,
-            len,
-        };
-        self.custom_pfd_content = text;
+        self.custom_pfd_content = Some(Text { place, len });
         self
     }
 
     pub fn domain_name_protocol(mut self, place: usize, len: usize) -> PfdContentsBuilder
         ensures { result ≡ with_protocol self (text_of place len) }
     {
-        let text = MaybeText {
-            given: true,
-            place,
-            len,
-        };
-        self.domain_name_protocol = text;
+        self.domain_name_protocol = Some(Text { place, len });
         self
     }
 
@@ -213,7 +182,7 @@ impl PfdContentsBuilder {
         PfdContentsAdded { answer, builder }
     }
 
-    pub fn build(self, texts: &[u8]) -> PfdContentsBuilt
+    pub fn build(self, texts: &[u8]) -> Built<PfdContents>
         ensures { result ≡ built texts.now self }
     {
         let n = texts.len();
@@ -221,14 +190,13 @@ impl PfdContentsBuilder {
             return unbuilt(Answer::InputTooLong { length: n });
         }
         let record = with_flags(self);
-        let bad = crate::write::bad_field(texts, record);
-        if bad != 0 {
-            return unbuilt(Answer::BadText { field: bad });
+        if let Some(field) = crate::write::bad_field(texts, record) {
+            return unbuilt(Answer::BadText { field });
         }
         if record.flags == 0 {
             return unbuilt(Answer::Unbuilt { rule: 6 });
         }
-        PfdContentsBuilt {
+        Built {
             answer: Answer::Done,
             record,
         }
@@ -242,7 +210,7 @@ impl PfdContents {
         PfdContentsBuilder::new()
     }
 
-    pub fn flow_description(texts: &[u8], place: usize, len: usize) -> PfdContentsBuilt
+    pub fn flow_description(texts: &[u8], place: usize, len: usize) -> Built<PfdContents>
         ensures { result ≡ built texts.now (with_flow fresh (text_of place len)) }
     {
         PfdContentsBuilder::new()
@@ -250,13 +218,13 @@ impl PfdContents {
             .build(texts)
     }
 
-    pub fn url(texts: &[u8], place: usize, len: usize) -> PfdContentsBuilt
+    pub fn url(texts: &[u8], place: usize, len: usize) -> Built<PfdContents>
         ensures { result ≡ built texts.now (with_url fresh (text_of place len)) }
     {
         PfdContentsBuilder::new().url(place, len).build(texts)
     }
 
-    pub fn domain_name(texts: &[u8], place: usize, len: usize) -> PfdContentsBuilt
+    pub fn domain_name(texts: &[u8], place: usize, len: usize) -> Built<PfdContents>
         ensures { result ≡ built texts.now (with_domain fresh (text_of place len)) }
     {
         PfdContentsBuilder::new()
@@ -270,7 +238,7 @@ impl PfdContents {
         flow_len: usize,
         url_place: usize,
         url_len: usize,
-    ) -> PfdContentsBuilt
+    ) -> Built<PfdContents>
         ensures { result ≡ built texts.now (with_url (with_flow fresh (text_of flow_place flow_len)) (text_of url_place url_len)) }
     {
         PfdContentsBuilder::new()
@@ -285,7 +253,7 @@ impl PfdContents {
         domain_len: usize,
         protocol_place: usize,
         protocol_len: usize,
-    ) -> PfdContentsBuilt
+    ) -> Built<PfdContents>
         ensures { result ≡ built texts.now (with_protocol (with_domain fresh (text_of domain_place domain_len)) (text_of protocol_place protocol_len)) }
     {
         PfdContentsBuilder::new()

@@ -1,86 +1,57 @@
 // The reader: a row of eight steps, each from where the one before it came to.
 ghost use Rattle.std.specs.Prelude.{◌≡◌};
 ghost use Rattle.pfd_contents.specs.PfdContents.{refused, read_fields, read};
+ghost use Rattle.pfd_contents.specs.Steps.{as_read};
 
 use crate::PfdContents;
-use answer::Answer;
-use text_fields::{MaybeText, TextList, Walk};
-
-// What reading a payload answers; the record is empty where it is refused.
-#[derive(Clone, Copy)]
-pub struct PfdContentsRead {
-    pub answer: Answer,
-    pub used: usize,
-    pub record: PfdContents,
-}
+use answer::{Answer, Read};
+use text_fields::{Fault, Step, TextList, read_text};
 
 // A refused read.
-fn refused(answer: Answer) -> PfdContentsRead
+#[tactic(auto, unfolding(crate::specs::PfdContents::refused))]
+fn refused(answer: Answer) -> Read<PfdContents>
     ensures { result ≡ refused answer }
 {
-    PfdContentsRead {
-        answer,
-        used: 0,
-        record: PfdContents::EMPTY,
-    }
+    Read::refused(answer, PfdContents::EMPTY)
 }
 
-// The eight fields in wire order, behind the flags and the spare byte. Where the walk ends, the used count is.
-fn read_fields(payload: &[u8], flags: u8) -> PfdContentsRead
-    ensures { result ≡ read_fields payload.now flags }
+// The eight fields in wire order, behind the flags and the spare byte.
+#[inline(always)]
+pub fn read_fields(payload: &[u8], flags: u8) -> Result<Step<PfdContents>, Fault>
+    ensures { as_read result ≡ read_fields payload.now flags }
 {
     let urls_too = octets::bit(flags, 6);
     let names_too = octets::bit(flags, 7);
-    let flow = MaybeText::read(payload, Walk::At(2), flags, 0);
-    let mut walk = flow.walk;
-    let url = MaybeText::read(payload, walk, flags, 1);
-    walk = url.walk;
-    let domain = MaybeText::read(payload, walk, flags, 2);
-    walk = domain.walk;
-    let custom = MaybeText::read(payload, walk, flags, 3);
-    walk = custom.walk;
-    let protocol = MaybeText::read(payload, walk, flags, 4);
-    walk = protocol.walk;
     let flows_later = octets::either(urls_too, names_too);
-    let flows = TextList::read(payload, walk, flags, 5, flows_later);
-    walk = flows.walk;
-    let urls = TextList::read(payload, walk, flags, 6, names_too);
-    walk = urls.walk;
-    let names = TextList::read(payload, walk, flags, 7, false);
-    walk = names.walk;
-    let flow_description = flow.text;
-    let url = url.text;
-    let domain_name = domain.text;
-    let custom_pfd_content = custom.text;
-    let domain_name_protocol = protocol.text;
-    let additional_flow_description = flows.list;
-    let additional_url = urls.list;
-    let additional_domain_name_and_protocol = names.list;
-    let record = PfdContents {
+    let flow = read_text(payload, 2, flags, 0)?;
+    let url = read_text(payload, flow.next, flags, 1)?;
+    let domain = read_text(payload, url.next, flags, 2)?;
+    let custom = read_text(payload, domain.next, flags, 3)?;
+    let protocol = read_text(payload, custom.next, flags, 4)?;
+    let flows = TextList::read(payload, protocol.next, flags, 5, flows_later)?;
+    let urls = TextList::read(payload, flows.next, flags, 6, names_too)?;
+    let names = TextList::read(payload, urls.next, flags, 7, false)?;
+    let taken = PfdContents {
         flags,
-        flow_description,
-        url,
-        domain_name,
-        custom_pfd_content,
-        domain_name_protocol,
-        additional_flow_description,
-        additional_url,
-        additional_domain_name_and_protocol,
+        flow_description: flow.taken,
+        url: url.taken,
+        domain_name: domain.taken,
+        custom_pfd_content: custom.taken,
+        domain_name_protocol: protocol.taken,
+        additional_flow_description: flows.taken,
+        additional_url: urls.taken,
+        additional_domain_name_and_protocol: names.taken,
     };
-    match walk {
-        Walk::At(used) => PfdContentsRead {
-            answer: Answer::Done,
-            used,
-            record,
-        },
-        Walk::Stopped(fault) => refused(fault.answer()),
-    }
+    Ok(Step {
+        taken,
+        next: names.next,
+    })
 }
 
 impl PfdContents {
     // The time is linear: each byte of a text goes through the UTF-8 check once, and up to four of a broken one
     // are looked at again, to say how.
-    pub fn unmarshal(payload: &[u8]) -> PfdContentsRead
+    pub fn unmarshal(payload: &[u8]) -> Read<PfdContents>
         ensures { result ≡ read payload.now }
     {
         let n = payload.len();
@@ -94,7 +65,13 @@ impl PfdContents {
                 actual: n,
             });
         }
-        let flags = payload[0];
-        read_fields(payload, flags)
+        match read_fields(payload, payload[0]) {
+            Ok(step) => Read {
+                answer: Answer::Done,
+                used: step.next,
+                record: step.taken,
+            },
+            Err(fault) => refused(Answer::from(fault)),
+        }
     }
 }

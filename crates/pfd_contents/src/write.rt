@@ -8,43 +8,33 @@ ghost use Rattle.pfd_contents.specs.Steps.{wire_by_runs, as_refusal};
 
 use crate::PfdContents;
 use answer::{Answer, Written};
-use text_fields::{MaybeText, TextList};
+use text_fields::{TextField, TextList, first_bad};
+use texts::Text;
 
-// The fields in wire order.
-pub(crate) fn bad_field(texts: &[u8], r: PfdContents) -> u8
+// The number of the first field that can't be, in wire order.
+pub(crate) fn bad_field(texts: &[u8], r: PfdContents) -> Option<u8>
     ensures { as_refusal result ≡ tested texts.now r }
 {
-    let flow = r.flow_description;
-    let url = r.url;
-    let domain = r.domain_name;
-    let custom = r.custom_pfd_content;
-    let protocol = r.domain_name_protocol;
-    let flows = r.additional_flow_description;
-    let urls = r.additional_url;
-    let names = r.additional_domain_name_and_protocol;
-    let by_flow = flow.first_bad(0, texts, 11);
-    let by_url = url.first_bad(by_flow, texts, 12);
-    let by_domain = domain.first_bad(by_url, texts, 13);
-    let by_custom = custom.first_bad(by_domain, texts, 14);
-    let by_protocol = protocol.first_bad(by_custom, texts, 15);
-    let by_flows = flows.first_bad(by_protocol, texts, 16);
-    let by_urls = urls.first_bad(by_flows, texts, 17);
-    names.first_bad(by_urls, texts, 18)
+    let by_flow = first_bad(r.flow_description, None, texts, 11);
+    let by_url = first_bad(r.url, by_flow, texts, 12);
+    let by_domain = first_bad(r.domain_name, by_url, texts, 13);
+    let by_custom = first_bad(r.custom_pfd_content, by_domain, texts, 14);
+    let by_protocol = first_bad(r.domain_name_protocol, by_custom, texts, 15);
+    let by_flows = first_bad(r.additional_flow_description, by_protocol, texts, 16);
+    let by_urls = first_bad(r.additional_url, by_flows, texts, 17);
+    first_bad(r.additional_domain_name_and_protocol, by_urls, texts, 18)
 }
 
 // How many bytes a text is written as.
-fn text_width(texts: &[u8], x: MaybeText) -> usize
+fn text_width(texts: &[u8], x: Option<Text>) -> usize
     requires { length texts.now ≤ 65535 }
     ensures value { result ≡ length (text_bytes texts.now x) }
     ensures upper_bound { result ≤ 65537 }
 {
-    let given = x.given;
-    let place = x.place;
-    let len = x.len;
-    if !given {
-        return 0;
+    match x {
+        Some(text) => text.of(texts).len() + 2,
+        None => 0,
     }
-    texts::part(texts, place, len).len() + 2
 }
 
 fn list_width(texts: &[u8], x: TextList) -> usize
@@ -62,22 +52,14 @@ fn form_width(texts: &[u8], r: PfdContents) -> usize
     requires { length texts.now ≤ 65535 }
     ensures { result ≡ length (wire_by_runs texts.now r) }
 {
-    let flow = r.flow_description;
-    let url = r.url;
-    let domain = r.domain_name;
-    let custom = r.custom_pfd_content;
-    let protocol = r.domain_name_protocol;
-    let flows = r.additional_flow_description;
-    let urls = r.additional_url;
-    let names = r.additional_domain_name_and_protocol;
-    let end_flow = 2 + text_width(texts, flow);
-    let end_url = end_flow + text_width(texts, url);
-    let end_domain = end_url + text_width(texts, domain);
-    let end_custom = end_domain + text_width(texts, custom);
-    let end_protocol = end_custom + text_width(texts, protocol);
-    let end_flows = end_protocol + list_width(texts, flows);
-    let end_urls = end_flows + list_width(texts, urls);
-    end_urls + list_width(texts, names)
+    let end_flow = 2 + text_width(texts, r.flow_description);
+    let end_url = end_flow + text_width(texts, r.url);
+    let end_domain = end_url + text_width(texts, r.domain_name);
+    let end_custom = end_domain + text_width(texts, r.custom_pfd_content);
+    let end_protocol = end_custom + text_width(texts, r.domain_name_protocol);
+    let end_flows = end_protocol + list_width(texts, r.additional_flow_description);
+    let end_urls = end_flows + list_width(texts, r.additional_url);
+    end_urls + list_width(texts, r.additional_domain_name_and_protocol)
 }
 
 // Puts the whole written form, for which there is room.
@@ -85,24 +67,17 @@ fn put_form(out: &mut [u8], texts: &[u8], r: PfdContents)
     requires { length (wire_by_runs texts.now r) ≤ length out.old }
     ensures { out.new ≡ put out.old 0 (wire_by_runs texts.now r) }
 {
-    let flow = r.flow_description;
-    let url = r.url;
-    let domain = r.domain_name;
-    let custom = r.custom_pfd_content;
-    let protocol = r.domain_name_protocol;
-    let flows = r.additional_flow_description;
-    let urls = r.additional_url;
-    let names = r.additional_domain_name_and_protocol;
     let head = [r.flags, 0];
     octets::put_bytes(out, 0, &head);
-    let at_url = flow.put(texts, out, 2);
-    let at_domain = url.put(texts, out, at_url);
-    let at_custom = domain.put(texts, out, at_domain);
-    let at_protocol = custom.put(texts, out, at_custom);
-    let at_flows = protocol.put(texts, out, at_protocol);
-    let at_urls = flows.put(texts, out, at_flows);
-    let at_names = urls.put(texts, out, at_urls);
-    names.put(texts, out, at_names);
+    let at_url = r.flow_description.put(texts, out, 2);
+    let at_domain = r.url.put(texts, out, at_url);
+    let at_custom = r.domain_name.put(texts, out, at_domain);
+    let at_protocol = r.custom_pfd_content.put(texts, out, at_custom);
+    let at_flows = r.domain_name_protocol.put(texts, out, at_protocol);
+    let at_urls = r.additional_flow_description.put(texts, out, at_flows);
+    let at_names = r.additional_url.put(texts, out, at_urls);
+    r.additional_domain_name_and_protocol
+        .put(texts, out, at_names);
 }
 
 fn unwritten(answer: Answer) -> Written
@@ -120,9 +95,8 @@ impl PfdContents {
         if 65535 < n {
             return unwritten(Answer::InputTooLong { length: n });
         }
-        let bad = bad_field(texts, self);
-        if bad != 0 {
-            return unwritten(Answer::BadText { field: bad });
+        if let Some(field) = bad_field(texts, self) {
+            return unwritten(Answer::BadText { field });
         }
         let len = form_width(texts, self);
         if 65535 < len {

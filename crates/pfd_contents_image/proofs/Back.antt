@@ -4,47 +4,50 @@ use native.Mathlib.Omega.{arith}
 use mathlib.Core.Path.{◌≡◌, refl, sym, ap, ◌∙◌}
 use mathlib.Core.Bool.{Bool, true, false, ◌||◌}
 use mathlib.Core.List.{List, ◌++◌}
-use Rattle.std.specs.Prelude.{None}
+use Rattle.std.specs.Prelude.{Option, Some, None, Result, Ok, Err, is_some}
+use Rattle.answer.specs.declared.Read.{Read}
 use lib.Dec.{leb}
 use lib.ListN.{length, get_or, length-append}
 use borrow.Author.Tests.{leb-true}
 use Rattle.answer.specs.declared.Answer.{Answer}
 use Rattle.octets.specs.Octets.{pick, bit}
 use Rattle.kind.specs.Write.{answered, stored}
-use Rattle.text_fields.specs.declared.MaybeText.{MaybeText}
+use Rattle.texts.specs.declared.Text.{Text}
+use Rattle.text_fields.specs.declared.Step.{Step}
 use Rattle.text_fields.specs.declared.TextList.{TextList}
 use Rattle.text_fields.specs.declared.Fault.{Fault}
 use Rattle.text_fields.specs.declared.Fault.TheVariants.{Past, Garbled}
-use Rattle.text_fields.specs.declared.fields.Field.{Field}
-use Rattle.text_fields.specs.declared.fields.Field.TheVariants.{Absent, Whole, Faulty}
-use Rattle.text_fields.specs.declared.fields.Entries.{Entries}
-use Rattle.text_fields.specs.declared.fields.Entries.TheVariants.{Run, Broken}
-use Rattle.text_fields.specs.Fields.{field_at, on_field, entries, on_entries, no_text, text_of, no_list, run_of, Step, took, broke, text, list}
+use Rattle.text_fields.specs.declared.fields.Run.{Run}
+use Rattle.text_fields.specs.Fields.{field_at, on_field, entries, run, on_entries, no_list, run_of, took, text, list}
 use Rattle.text_fields.proofs.Runs.{whole_end}
 use Rattle.pfd_contents.specs.declared.PfdContents.{PfdContents}
-use Rattle.pfd_contents.specs.declared.read.PfdContentsRead.{PfdContentsRead}
 use Rattle.pfd_contents.specs.PfdContents.{meaning, wire, pfd_of, empty_pfd, refused, ◌into◌, read_fields, read, write_refusal}
 use Rattle.pfd_contents.proofs.OfKind.{kind, writable}
 use Rattle.image.specs.Image.{little_endian_bytes, number_at, read_image}
 use Rattle.image.proofs.Back.{Stands, flag_back, apart, last, byte, number, ImageOf, image_left, Again}
 use Rattle.image.proofs.Back as image
-use Rattle.pfd_contents_image.specs.PfdContentsImage.{size, text_image, list_image, texts_image, lists_image, given, record_image, image_of, text_at, list_at, record_at, written_form, writes, stores}
+use Rattle.pfd_contents_image.specs.PfdContentsImage.{size, shown, text_image, list_image, texts_image, lists_image, given, record_image, image_of, text_at, list_at, record_at, written_form, writes, stores}
 use Rattle.pfd_contents_image.proofs.Laws.{length_text, length_list}
 
 -- ---- a text and a list are read back, where their numbers have their bytes
-abbrev SmallText : MaybeText → Type 0
-SmallText t = (t.place < 256 ^ 8) × (t.len < 256 ^ 8)
+abbrev SmallText : Option Text → Type 0
+SmallText t = ((shown t).place < 256 ^ 8) × ((shown t).len < 256 ^ 8)
 
 abbrev SmallList : TextList → Type 0
 SmallList l = (l.place < 256 ^ 8) × (l.len < 256 ^ 8) × (l.count < 256 ^ 8)
 
 module _ {m ys : List ℕ} {at : ℕ} where
-  text_back : (t : MaybeText) → SmallText t → Stands m at (text_image t ++ ys) → (text_at m at t.given ≡ t) × Stands m (at + 8 + 8) ys
+  text_back : (t : Option Text) → SmallText t → Stands m at (text_image t ++ ys) → (text_at m at (is_some t) ≡ t) × Stands m (at + 8 + 8) ys
   unfolding text_image text_at
   text_back t (p, l) h =
-      let (e₀, h₁) = number t.place p (apart (little_endian_bytes 8 t.place) (little_endian_bytes 8 t.len) ys h) in
-      let (e₁, h₂) = number t.len l h₁ in
-      (rw (e₀, e₁), h₂)
+      let (e₀, h₁) = number (shown t).place p (apart (little_endian_bytes 8 (shown t).place) (little_endian_bytes 8 (shown t).len) ys h) in
+      let (e₁, h₂) = number (shown t).len l h₁ in
+      (go t e₀ e₁, h₂)
+    where
+      go : (t : Option Text) → number_at m at ≡ (shown t).place → number_at m (at + 8) ≡ (shown t).len
+          → pick (is_some t) (Some (record { place = number_at m at; len = number_at m (at + 8) })) None ≡ t
+      go None e₀ e₁ = refl
+      go (Some t) e₀ e₁ = rw (e₀, e₁)
 
   list_back : (l : TextList) → SmallList l → Stands m at (list_image l ++ ys) → (list_at m at ≡ l) × Stands m (at + 8 + 8 + 8) ys
   unfolding list_image list_at
@@ -113,39 +116,39 @@ laid r s₁ s₂ s₃ s₄ s₅ s₆ s₇ s₈ =
 -- ---- what a step of the reader takes lies within the payload
 module _ (s : List ℕ) (short : length s ≤ 65535) where
   -- what is said of what a step took, and of the place behind it
-  abbrev Within : {A : Type 0} → (A → Type 0) → Step A → Type 0
-  Within Small (took x n) = Small x × (n ≤ length s)
-  Within Small (broke fault) = Unit
+  abbrev Within : {A : Type 0} → (A → Type 0) → Result (Step A) Fault → Type 0
+  Within Small (Ok step) = Small step.taken × (step.next ≤ length s)
+  Within Small (Err fault) = Unit
 
   -- by the field at a place: none, one that ends within the payload, or a fault
-  by_field : {A : Type 0} (P : A → Type 0) (at : ℕ) (absent : A) (long_enough : ℕ → ℕ → A) (faulty : Fault → A) → P absent
-      → ((p n : ℕ) → at + 2 ≤ p → p + n ≤ length s → P (long_enough p n)) → ((x : Fault) → P (faulty x)) → P (on_field (field_at s at) absent long_enough faulty)
-  by_field P at absent long_enough faulty a w f = go (field_at s at) refl
+  by_field : {A : Type 0} (P : A → Type 0) (at : ℕ) (absent : A) (whole : Text → A) (faulty : Fault → A) → P absent
+      → ((t : Text) → at + 2 ≤ t.place → t.place + t.len ≤ length s → P (whole t)) → ((x : Fault) → P (faulty x)) → P (on_field (field_at s at) absent whole faulty)
+  by_field P at absent whole faulty a w f = go (field_at s at) refl
     where
-      go : (g : Field) → field_at s at ≡ g → P (on_field g absent long_enough faulty)
-      go Absent q = a
-      go (Whole p n) q = let e = whole_end s at (sym q) refl in w p n (omega arith) (omega arith)
-      go (Faulty x) q = f x
+      go : (g : Result (Option Text) Fault) → field_at s at ≡ g → P (on_field g absent whole faulty)
+      go (Ok None) q = a
+      go (Ok (Some t)) q = let e = whole_end s at (sym q) refl in w t (omega arith) (omega arith)
+      go (Err x) q = f x
 
   text_within : (flag : Bool) (at : ℕ) → at ≤ length s → Within SmallText (text s flag at)
   unfolding text
   text_within false at h = ((omega arith, omega arith), h)
   text_within true at h =
-      by_field (Within SmallText) at _ (λ p n. took (text_of p n) (p + n)) _ ((omega arith, omega arith), h)
-      (λ p n h w. ((omega arith, omega arith), w))
+      by_field (Within SmallText) at _ (λ t. took (Some t) (t.place + t.len)) _ ((omega arith, omega arith), h)
+      (λ t h w. ((omega arith, omega arith), w))
       (λ x. tt)
 
   -- a run has no more fields than bytes
-  abbrev RunWithin : Entries → Type 0
-  RunWithin (Run count next) = (count ≤ next) × (next ≤ length s)
-  RunWithin (Broken fault) = Unit
+  abbrev RunWithin : Result Run Fault → Type 0
+  RunWithin (Ok r) = (r.count ≤ r.next) × (r.next ≤ length s)
+  RunWithin (Err fault) = Unit
 
   run_within : (most at count : ℕ) → at ≤ length s → count ≤ at → RunWithin (entries most s at count)
   unfolding entries
   run_within zero at count h k = (k, h)
   run_within (suc most) at count h k =
-      by_field RunWithin at (Run count at) (λ p n. entries most s (p + n) (count + 1)) Broken (k, h)
-      (λ p n h w. run_within most (p + n) (count + 1) w (omega arith))
+      by_field RunWithin at (run count at) (λ t. entries most s (t.place + t.len) (count + 1)) Err (k, h)
+      (λ t h w. run_within most (t.place + t.len) (count + 1) w (omega arith))
       (λ x. tt)
 
   list_within : (flag later : Bool) (at : ℕ) → at ≤ length s → Within SmallList (list s flag later at)
@@ -153,26 +156,26 @@ module _ (s : List ℕ) (short : length s ≤ 65535) where
   list_within false later at h = ((omega arith, omega arith, omega arith), h)
   list_within true later at h = go (entries (pick later 1 (length s)) s at 0) (run_within (pick later 1 (length s)) at 0 h (omega arith))
     where
-      go : (e : Entries) → RunWithin e → Within SmallList (on_entries e (λ count next. took (run_of at next count) next) broke)
-      go (Run count next) (k, w) = ((omega arith, omega arith, omega arith), w)
-      go (Broken fault) k = tt
+      go : (e : Result Run Fault) → RunWithin e → Within SmallList (on_entries e (λ r. took (run_of at r.next r.count) r.next) Err)
+      go (Ok r) (k, w) = ((omega arith, omega arith, omega arith), w)
+      go (Err fault) k = tt
 
 -- ---- and so the record of every read
-abbrev Fine : PfdContentsRead → Type 0
+abbrev Fine : Read PfdContents → Type 0
 Fine x = Kept x.«record»
 
 not_read : (a : Answer) → Fine (refused a)
 unfolding refused
 not_read a =
-    let t : SmallText no_text = (omega arith, omega arith) in
+    let t : SmallText None = (omega arith, omega arith) in
     let l : SmallList no_list = (omega arith, omega arith, omega arith) in
     laid empty_pfd t t t t t l l l
 
-fine_into : {A : Type 0} (s : List ℕ) (short : length s ≤ 65535) (Small : A → Type 0) (x : Step A) (rest : A → ℕ → PfdContentsRead) → Within s short Small x
+fine_into : {A : Type 0} (s : List ℕ) (short : length s ≤ 65535) (Small : A → Type 0) (x : Result (Step A) Fault) (rest : A → ℕ → Read PfdContents) → Within s short Small x
     → ((a : A) (n : ℕ) → Small a → n ≤ length s → Fine (rest a n)) → Fine (x into rest)
-fine_into s short Small (took a n) rest (k, h) f = f a n k h
-fine_into s short Small (broke (Past e l)) rest k f = not_read _
-fine_into s short Small (broke (Garbled p b)) rest k f = not_read _
+fine_into s short Small (Ok step) rest (k, h) f = f step.taken step.next k h
+fine_into s short Small (Err (Past e l)) rest k f = not_read _
+fine_into s short Small (Err (Garbled p b)) rest k f = not_read _
 
 of_fields : (s : List ℕ) (f : ℕ) → length s ≤ 65535 → 2 ≤ length s → Fine (read_fields s f)
 unfolding read_fields
@@ -187,7 +190,7 @@ of_fields s f short h =
     fine_into s short SmallList (list s (bit 7 f) false n₇) _ (list_within s short (bit 7 f) false n₇ h₇) (λ x₈ n₈ k₈ h₈.
     laid (pfd_of f x₁ x₂ x₃ x₄ x₅ x₆ x₇ x₈) k₁ k₂ k₃ k₄ k₅ k₆ k₇ k₈))))))))
 
-fine_either : (t : Bool) (x y : PfdContentsRead) → (t ≡ true → Fine x) → Fine y → Fine (pick t x y)
+fine_either : (t : Bool) (x y : Read PfdContents) → (t ≡ true → Fine x) → Fine y → Fine (pick t x y)
 fine_either true x y f g = f refl
 fine_either false x y f g = g
 

@@ -2,13 +2,14 @@
 use native.Mathlib.Omega.{arith}
 use mathlib.Core.Path.{◌≡◌}
 use lib.ListN.{length, length-append}
-use Rattle.text_fields.specs.declared.MaybeText.{MaybeText}
+use Rattle.std.specs.Prelude.{Option}
+use Rattle.texts.specs.declared.Text.{Text}
 use Rattle.text_fields.specs.declared.TextList.{TextList}
 use Rattle.pfd_contents.specs.declared.PfdContents.{PfdContents}
 use Rattle.image.proofs.Laws.{length_little_endian_bytes_law}
 use Rattle.pfd_contents_image.specs.PfdContentsImage.{text_image, list_image, texts_image, lists_image}
 
-pub length_text : (t : MaybeText) → length (text_image t) ≡ 16
+pub length_text : (t : Option Text) → length (text_image t) ≡ 16
 unfolding text_image
 length_text t = simp (length-append, length_little_endian_bytes_law) (omega arith)
 

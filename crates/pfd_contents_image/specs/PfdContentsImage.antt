@@ -1,12 +1,12 @@
 -- PFD Contents in a record image: the head, then the fields, each at its place.
-use Rattle.std.specs.Prelude.{ℕ, ◌+◌, Bool, List, [], ◌∷◌, ◌++◌, length, get_or}
+use Rattle.std.specs.Prelude.{ℕ, ◌+◌, Bool, List, [], ◌∷◌, ◌++◌, length, get_or, Option, Some, None, is_some, unwrap_or}
+use Rattle.answer.specs.declared.Read.{Read}
 use Rattle.answer.specs.declared.Written.{Written}
-use Rattle.octets.specs.Octets.{bit, flag_byte}
+use Rattle.octets.specs.Octets.{pick, bit, flag_byte}
 use Rattle.kind.specs.Write.{answered, stored}
-use Rattle.text_fields.specs.declared.MaybeText.{MaybeText}
+use Rattle.texts.specs.declared.Text.{Text}
 use Rattle.text_fields.specs.declared.TextList.{TextList}
 use Rattle.pfd_contents.specs.declared.PfdContents.{PfdContents}
-use Rattle.pfd_contents.specs.declared.read.PfdContentsRead.{PfdContentsRead}
 use Rattle.pfd_contents.specs.PfdContents.{meaning, wire, write_refusal}
 use Rattle.image.specs.Image.{little_endian_bytes, number_at, head, head_size}
 
@@ -48,9 +48,12 @@ names_at = urls_at + 24
 abbrev pub size : ℕ
 size = names_at + 24
 
--- the bytes of a text, and of a list
-unfoldable pub text_image : MaybeText → List ℕ
-text_image t = little_endian_bytes 8 t.place ++ little_endian_bytes 8 t.len
+-- the bytes of a text, zeros where it is absent, and of a list
+abbrev pub shown : Option Text → Text
+shown t = unwrap_or t (record { place = 0; len = 0 })
+
+unfoldable pub text_image : Option Text → List ℕ
+text_image t = little_endian_bytes 8 (shown t).place ++ little_endian_bytes 8 (shown t).len
 
 unfoldable pub list_image : TextList → List ℕ
 list_image l = little_endian_bytes 8 l.place ++ (little_endian_bytes 8 l.len ++ little_endian_bytes 8 l.count)
@@ -73,11 +76,11 @@ lists_image r =
 -- which of the texts are given
 abbrev pub given : PfdContents → List Bool
 given r =
-    r.flow_description.given
-    ∷ r.url.given
-    ∷ r.domain_name.given
-    ∷ r.custom_pfd_content.given
-    ∷ r.domain_name_protocol.given
+    is_some r.flow_description
+    ∷ is_some r.url
+    ∷ is_some r.domain_name
+    ∷ is_some r.custom_pfd_content
+    ∷ is_some r.domain_name_protocol
     ∷ []
 
 -- the bytes of a record
@@ -85,12 +88,12 @@ unfoldable pub record_image : PfdContents → List ℕ
 record_image r = r.flags ∷ flag_byte (given r) ∷ (texts_image r ++ lists_image r)
 
 -- the image of what a read answered
-abbrev pub image_of : PfdContentsRead → List ℕ
+abbrev pub image_of : Read PfdContents → List ℕ
 image_of r = head r.answer r.used ++ record_image r.«record»
 
--- the text at a place, and the list
-unfoldable pub text_at : List ℕ → ℕ → Bool → MaybeText
-text_at m at given = record { given = given; place = number_at m at; len = number_at m (at + 8) }
+-- the text at a place, where it is given, and the list
+unfoldable pub text_at : List ℕ → ℕ → Bool → Option Text
+text_at m at given = pick given (Some (record { place = number_at m at; len = number_at m (at + 8) })) None
 
 unfoldable pub list_at : List ℕ → ℕ → TextList
 list_at m at = record { place = number_at m at; len = number_at m (at + 8); count = number_at m (at + 16) }

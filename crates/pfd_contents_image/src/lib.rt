@@ -6,12 +6,13 @@ ghost use Rattle.answer.specs.declared.Answer.TheVariants.{Done};
 ghost use Rattle.answer.specs.Paper.{number_of};
 ghost use Rattle.octets.specs.Octets.{put};
 ghost use Rattle.image.specs.Image.{number_at, head, read_number, read_image, long_enough, write_number, write_output, write_report};
-ghost use Rattle.pfd_contents.specs.PfdContents.{read_fields, read};
+ghost use Rattle.pfd_contents.specs.PfdContents.{read};
 ghost use Rattle.pfd_contents_image.specs.PfdContentsImage.{flow_at, flows_at, size, text_image, list_image, texts_image, lists_image, record_image, image_of, text_at, list_at, record_at, writes, stores};
 
 use answer::Answer;
 use pfd_contents::PfdContents;
-use text_fields::{MaybeText, TextList, Walk};
+use text_fields::TextList;
+use texts::Text;
 
 // Where each field of an image stands, and how long an image is: a text is a place and a length, a list those and a count.
 const FLAGS: usize = image::HEAD;
@@ -36,13 +37,14 @@ const NAMES: usize = URLS + 24;
 
 pub const SIZE: usize = NAMES + 24;
 
-// Puts a text's place and length.
-fn put_text(out: &mut [u8], at: usize, text: MaybeText)
+// Puts a text's place and length, zeros where it is absent.
+fn put_text(out: &mut [u8], at: usize, text: Option<Text>)
     requires { at + 16 ≤ length out.old }
     ensures { out.new ≡ put out.old at (text_image text) }
 {
-    image::put_u64(out, at + 8, text.len as u64);
-    image::put_u64(out, at, text.place as u64);
+    let shown = text.unwrap_or(Text { place: 0, len: 0 });
+    image::put_u64(out, at + 8, shown.len as u64);
+    image::put_u64(out, at, shown.place as u64);
 }
 
 // Puts a run's place, its length and its count.
@@ -82,17 +84,12 @@ fn put_image(out: &mut [u8], used: usize, record: PfdContents)
     requires { size ≤ length out.old }
     ensures { out.new ≡ put out.old 0 (head Done used ++ record_image «record») }
 {
-    let flow_description = record.flow_description;
-    let url = record.url;
-    let domain_name = record.domain_name;
-    let custom_pfd_content = record.custom_pfd_content;
-    let domain_name_protocol = record.domain_name_protocol;
     let given = octets::flag_byte(
-        flow_description.given,
-        url.given,
-        domain_name.given,
-        custom_pfd_content.given,
-        domain_name_protocol.given,
+        record.flow_description.is_some(),
+        record.url.is_some(),
+        record.domain_name.is_some(),
+        record.custom_pfd_content.is_some(),
+        record.domain_name_protocol.is_some(),
         false,
         false,
         false,
@@ -104,60 +101,6 @@ fn put_image(out: &mut [u8], used: usize, record: PfdContents)
     image::put_head(out, Answer::Done, used);
 }
 
-// The eight fields in wire order. The steps are those of `PfdContents::unmarshal`; they stand here once more so that the compiler
-// takes the record from them to the image in registers: a function that both call isn't inlined, and costs 50 instructions more.
-fn read_fields(payload: &[u8], flags: u8, image: &mut [u8]) -> u64
-    requires { size ≤ length image.old }
-    ensures value { result ≡ number_of (read_fields payload.now flags).answer }
-    ensures image_after { image.new ≡ put image.old 0 (image_of (read_fields payload.now flags)) }
-{
-    let urls_too = octets::bit(flags, 6);
-    let names_too = octets::bit(flags, 7);
-    let flow = MaybeText::read(payload, Walk::At(2), flags, 0);
-    let mut walk = flow.walk;
-    let url = MaybeText::read(payload, walk, flags, 1);
-    walk = url.walk;
-    let domain = MaybeText::read(payload, walk, flags, 2);
-    walk = domain.walk;
-    let custom = MaybeText::read(payload, walk, flags, 3);
-    walk = custom.walk;
-    let protocol = MaybeText::read(payload, walk, flags, 4);
-    walk = protocol.walk;
-    let flows_later = octets::either(urls_too, names_too);
-    let flows = TextList::read(payload, walk, flags, 5, flows_later);
-    walk = flows.walk;
-    let urls = TextList::read(payload, walk, flags, 6, names_too);
-    walk = urls.walk;
-    let names = TextList::read(payload, walk, flags, 7, false);
-    walk = names.walk;
-    let flow_description = flow.text;
-    let url = url.text;
-    let domain_name = domain.text;
-    let custom_pfd_content = custom.text;
-    let domain_name_protocol = protocol.text;
-    let additional_flow_description = flows.list;
-    let additional_url = urls.list;
-    let additional_domain_name_and_protocol = names.list;
-    let record = PfdContents {
-        flags,
-        flow_description,
-        url,
-        domain_name,
-        custom_pfd_content,
-        domain_name_protocol,
-        additional_flow_description,
-        additional_url,
-        additional_domain_name_and_protocol,
-    };
-    match walk {
-        Walk::At(used) => {
-            put_image(image, used, record);
-            0
-        }
-        Walk::Stopped(fault) => image::put_refused(image, SIZE, fault.answer()),
-    }
-}
-
 // The number at a place whose eight bytes are there: one load.
 fn number_at(image: &[u8], at: usize) -> u64
     requires { at + 8 ≤ length image.now }
@@ -166,18 +109,17 @@ fn number_at(image: &[u8], at: usize) -> u64
     image::u64_at(&image[at..at + 8], 0)
 }
 
-// The text at a place, and whether it is given.
-fn text_at(image: &[u8], at: usize, given: bool) -> MaybeText
+// The text at a place, where it is given.
+fn text_at(image: &[u8], at: usize, given: bool) -> Option<Text>
     requires { at + 16 ≤ length image.now }
     ensures { result ≡ text_at image.now at given }
 {
     let place = number_at(image, at);
     let len = number_at(image, at + 8);
-    MaybeText {
-        given,
+    given.then_some(Text {
         place: place as usize,
         len: len as usize,
-    }
+    })
 }
 
 // The list at a place.
@@ -229,8 +171,13 @@ pub fn read(payload: &[u8], image: &mut [u8]) -> u64
     if n < 2 {
         return image::put_short(image, SIZE, 0, 2, n);
     }
-    let flags = payload[0];
-    read_fields(payload, flags, image)
+    match pfd_contents::read_fields(payload, payload[0]) {
+        Ok(step) => {
+            put_image(image, step.next, step.taken);
+            0
+        }
+        Err(fault) => image::put_refused(image, SIZE, Answer::from(fault)),
+    }
 }
 
 pub fn write(image: &[u8], texts: &[u8], out: &mut [u8], report: &mut [u8]) -> u64

@@ -11,44 +11,48 @@ use Rattle.answer.specs.declared.Answer.TheVariants.{Done, InputTooLong, BadText
 use Rattle.kind.specs.Write.{◌then◌}
 use Rattle.text_fields.specs.Fields.{field_at, on_field, entry_end, is_list, is_empty, entries, on_entries, is_behind, bad, added, add_refusal, added_by, run_of}
 use Rattle.text_fields.specs.declared.TextList.{TextList}
-use Rattle.text_fields.specs.declared.fields.Field.{Field}
-use Rattle.text_fields.specs.declared.fields.Field.TheVariants.{Absent, Whole, Faulty}
-use Rattle.text_fields.specs.declared.fields.Entries.{Entries}
-use Rattle.text_fields.specs.declared.fields.Entries.TheVariants.{Run, Broken}
+use Rattle.texts.specs.declared.Text.{Text}
+use Rattle.text_fields.specs.declared.Fault.{Fault}
+use Rattle.text_fields.specs.declared.fields.Run.{Run}
+use Rattle.std.specs.Prelude.{Option, None, Some, Result, Ok, Err, is_some}
 use Rattle.text_fields.proofs.Runs.{whole_end, bounded}
 use Rattle.text_fields.proofs.Meant.{both_true}
 
 -- ---- the entry
 
 module _ (t : List ℕ) (at : ℕ) where
-  pub entry_is : (f g : Field) → f ≡ field_at t at → f ≡ g → on_field g 0 (λ p n. p + n) (λ fault. 0) ≡ entry_end t at
+  pub entry_is : (f g : Result (Option Text) Fault) → f ≡ field_at t at → f ≡ g → on_field g None (λ w. Some (w.place + w.len)) (λ fault. None) ≡ entry_end t at
   unfolding entry_end
   entry_is f g e k = rw (← e, k)
 
   -- an entry that is there ends behind its place
-  pub entry_behind : (end : ℕ) → end ≡ entry_end t at → (end ≡ 0 → ⊥) → at + 2 ≤ end
+  pub entry_behind : (end : ℕ) → Some end ≡ entry_end t at → at + 2 ≤ end
   unfolding entry_end
-  entry_behind end e h = go (field_at t at) refl e
+  entry_behind end e = go (field_at t at) refl e
     where
-      go : (f : Field) → field_at t at ≡ f → end ≡ on_field f 0 (λ p n. p + n) (λ fault. 0) → at + 2 ≤ end
-      go Absent q e = absurd (h e)
-      go (Whole p n) q e = let w = whole_end t at (sym q) refl in omega arith
-      go (Faulty x) q e = absurd (h e)
+      go : (f : Result (Option Text) Fault) → field_at t at ≡ f → Some end ≡ on_field f None (λ w. Some (w.place + w.len)) (λ fault. None) → at + 2 ≤ end
+      go (Ok None) q e = let z : ◌≡◌ {A = ℕ} 0 1 = cc in absurd (omega arith)
+      go (Ok (Some w)) q e =
+          let x = whole_end t at (sym q) refl in
+          let y : end ≡ w.place + w.len = cc in
+          omega arith
+      go (Err x) q e = let z : ◌≡◌ {A = ℕ} 0 1 = cc in absurd (omega arith)
 
 -- a list that can be has no more entries than its slice has bytes
 few : (t : List ℕ) (x : TextList) → is_list t x ≡ true → is_empty x ≡ false → x.count ≤ length t
 unfolding is_list
 few t x h k = go (entries x.count t x.place 0) refl (rw k at h)
   where
-    go : (r : Entries) → entries x.count t x.place 0 ≡ r → on_entries r (λ count next. eqb count x.count && eqb (next - x.place) x.len) (λ fault. false) ≡ true → x.count ≤ length t
-    go (Run n next) q h =
+    go : (r : Result Run Fault) → entries x.count t x.place 0 ≡ r → on_entries r (λ r. eqb r.count x.count && eqb (r.next - x.place) x.len) (λ fault. false) ≡ true → x.count ≤ length t
+    go (Ok r) q h =
+        let n = r.count in
         let a : n ≡ x.count = eqb-true _ _ (both_true _ _ h).0 in
         by n (bounded t x.count x.place 0 q).1 a
       where
         by : (n : ℕ) → (0 < n → x.place + 2 * (n - 0) ≤ length t) → n ≡ x.count → x.count ≤ length t
         by zero k a = omega arith
         by (suc n) k a = omega (arith, k (omega arith))
-    go (Broken f) q h = absurd (false≢true h)
+    go (Err f) q h = absurd (false≢true h)
 
 -- ---- a place behind the run
 
@@ -76,47 +80,52 @@ module _ (t : List ℕ) (l : TextList) (number at : ℕ) where
   unfolding added add_refusal added_by ◌then◌
   add_long h = rw (lt-leb _ _ h)
 
-  -- the tests as the code joins them: `ok` is both, and `fits` that the entry is there, directly behind the run
-  module _ (f : length t ≤ 65535) (end : ℕ) (e : end ≡ entry_end t at) (behind fits good ok : Bool)
-      (d : behind ≡ is_behind l at) (p : fits ≡ (not (eqb end 0) && behind)) (g : good ≡ is_list t l) (k : ok ≡ (good && fits)) where
-    tested : add_refusal number t l at ≡ bad number ok
+  -- the tests as the code joins them: `ok` is that of the list and of the place
+  module _ (f : length t ≤ 65535) (e : Option ℕ) (i : e ≡ entry_end t at) (behind good ok : Bool)
+      (d : behind ≡ is_behind l at) (g : good ≡ is_list t l) (k : ok ≡ (good && behind)) where
+    tested : add_refusal number t l at ≡ bad number (ok && is_some e)
     unfolding add_refusal ◌then◌
-    tested = rw (le-leb _ _ f, ← e, ← d, ← p, ← g, k) (go good fits)
+    tested = rw (le-leb _ _ f, ← i, ← d, ← g, k) (go good behind e)
       where
-        go : (a b : Bool) → (bad number a then bad number b) ≡ bad number (a && b)
-        go true b = refl
-        go false b = refl
+        go : (a b : Bool) (e : Option ℕ) → (bad number a then bad number (is_some e && b)) ≡ bad number ((a && b) && is_some e)
+        go false b e = refl
+        go true false None = refl
+        go true false (Some n) = refl
+        go true true None = refl
+        go true true (Some n) = refl
 
-    pub add_none : not ok ≡ true → record { answer = BadText number; list = l } ≡ added number t l at
+    pub add_not : not ok ≡ true → record { answer = BadText number; list = l } ≡ added number t l at
     unfolding added added_by
-    add_none h = rw (tested, not-true ok h)
+    add_not h = rw (tested, not-true ok h)
 
     module _ (h : not ok ≡ false) where
-      passed : (good ≡ true) × (not (eqb end 0) ≡ true) × (behind ≡ true)
-      passed =
-          let (a, b) = both_true good fits (sym k ∙ not-false ok h) in
-          let (x, y) = both_true _ _ (sym p ∙ b) in
-          (a, x, y)
+      pub add_none : e ≡ None → record { answer = BadText number; list = l } ≡ added number t l at
+      unfolding added added_by
+      add_none q = rw (tested, not-false ok h, q)
 
-      pub add_onward : at ≤ end
-      add_onward = omega (arith, entry_behind t at end e (eqb-false end 0 (not-true (eqb end 0) passed.1)))
+      passed : (good ≡ true) × (behind ≡ true)
+      passed = both_true good behind (sym k ∙ not-false ok h)
 
-      module _ (b : Bool) (c : b ≡ is_empty l) where
-        pub add_first : b ≡ true → record { answer = Done; list = run_of at end 1 } ≡ added number t l at
-        unfolding added added_by
-        add_first n = rw (tested, not-false ok h, ← e, ← c, n)
+      module _ (end : ℕ) (q : e ≡ Some end) where
+        pub add_onward : at ≤ end
+        add_onward = omega (arith, entry_behind t at end (sym q ∙ i))
 
-        module _ (n : b ≡ false) where
-          pub add_behind : record { answer = Done; list = run_of l.place end (l.count + 1) } ≡ added number t l at
+        module _ (b : Bool) (c : b ≡ is_empty l) where
+          pub add_first : b ≡ true → record { answer = Done; list = run_of at end 1 } ≡ added number t l at
           unfolding added added_by
-          add_behind = rw (tested, not-false ok h, ← e, ← c, n)
+          add_first n = rw (tested, not-false ok h, ← i, q, ← c, n)
 
-          -- the entry stands where the run ends
-          pub add_place : l.place ≤ end
-          unfolding is_behind
-          add_place =
-              let z : l.place + l.len ≡ at = eqb-true _ _ (rw (← c, n) at (sym d ∙ passed.2)) in
-              omega (arith, add_onward)
+          module _ (n : b ≡ false) where
+            pub add_behind : record { answer = Done; list = run_of l.place end (l.count + 1) } ≡ added number t l at
+            unfolding added added_by
+            add_behind = rw (tested, not-false ok h, ← i, q, ← c, n)
 
-          pub add_count : l.count ≤ length t
-          add_count = few t l (sym g ∙ passed.0) (sym c ∙ n)
+            -- the entry stands where the run ends
+            pub add_place : l.place ≤ end
+            unfolding is_behind
+            add_place =
+                let z : l.place + l.len ≡ at = eqb-true _ _ (rw (← c, n) at (sym d ∙ passed.1)) in
+                omega (arith, add_onward)
+
+            pub add_count : l.count ≤ length t
+            add_count = few t l (sym g ∙ passed.0) (sym c ∙ n)

@@ -5,39 +5,28 @@ use mathlib.Core.List.{List}
 use mathlib.Core.Bool.{Bool, true, false, not}
 use borrow.Author.Tests.{not-true, not-false}
 use lib.ListN.{length}
+use Rattle.std.specs.Prelude.{Option, Some, None, Result, Err}
 use Rattle.octets.specs.Octets.{pick}
-use Rattle.text_fields.specs.Fields.{text, field_at, on_field, took, no_text, text_of, broke, list, entries, on_entries, run_of, no_list}
-use Rattle.text_fields.specs.Steps.{text_to, list_to, text_step, list_step}
+use Rattle.texts.specs.declared.Text.{Text}
+use Rattle.text_fields.specs.Fields.{text, field_at, on_field, took, list, entries, on_entries, run_of, no_list}
 use Rattle.text_fields.specs.declared.Fault.{Fault}
-use Rattle.text_fields.specs.declared.fields.Field.{Field}
-use Rattle.text_fields.specs.declared.fields.Entries.{Entries}
-use Rattle.text_fields.specs.declared.Walk.{Walk}
-use Rattle.text_fields.specs.declared.Walk.TheVariants.{At, Stopped}
+use Rattle.text_fields.specs.declared.fields.Run.{Run}
 
-module _ (s : List ℕ) (w : Walk) (b : Bool) where
-  pub text_after : (fault : Fault) → w ≡ Stopped fault → record { walk = Stopped fault; text = no_text } ≡ text_step s w b
-  unfolding text_step
-  text_after fault k = rw k
+module _ (s : List ℕ) (at : ℕ) (b on : Bool) (e : on ≡ b) where
+  pub text_off : not on ≡ true → took None at ≡ text s b at
+  unfolding text
+  text_off h = rw (← e, not-true on h)
 
-  pub list_after : (later : Bool) (fault : Fault) → w ≡ Stopped fault → record { walk = Stopped fault; list = no_list } ≡ list_step s w b later
-  unfolding list_step
-  list_after later fault k = rw k
+  pub text_on : not on ≡ false → (f g : Result (Option Text) Fault) → f ≡ field_at s at → f ≡ g → on_field g (took None at) (λ t. took (Some t) (t.place + t.len)) Err ≡ text s b at
+  unfolding text
+  text_on h f g p q = rw (← e, not-false on h, ← p, q)
 
-  module _ (at : ℕ) (k : w ≡ At at) (on : Bool) (e : on ≡ b) where
-    pub text_off : not on ≡ true → record { walk = At at; text = no_text } ≡ text_step s w b
-    unfolding text_step text
-    text_off h = rw (k, ← e, not-true on h)
+  module _ (later : Bool) where
+    pub list_off : not on ≡ true → took no_list at ≡ list s b later at
+    unfolding list
+    list_off h = rw (← e, not-true on h)
 
-    pub text_on : not on ≡ false → (f g : Field) → f ≡ field_at s at → f ≡ g → text_to (on_field g (took no_text at) (λ p n. took (text_of p n) (p + n)) broke) ≡ text_step s w b
-    unfolding text_step text
-    text_on h f g p q = rw (k, ← e, not-false on h, ← p, q)
-
-    module _ (later : Bool) where
-      pub list_off : not on ≡ true → record { walk = At at; list = no_list } ≡ list_step s w b later
-      unfolding list_step list
-      list_off h = rw (k, ← e, not-true on h)
-
-      pub list_on : not on ≡ false → (most : ℕ) (f g : Entries) → most ≡ pick later 1 (length s) → f ≡ entries most s at 0 → f ≡ g
-          → list_to (on_entries g (λ count next. took (run_of at next count) next) broke) ≡ list_step s w b later
-      unfolding list_step list
-      list_on h most f g m p q = rw (k, ← e, not-false on h, ← m, ← p, q)
+    pub list_on : not on ≡ false → (most : ℕ) (f g : Result Run Fault) → most ≡ pick later 1 (length s) → f ≡ entries most s at 0 → f ≡ g
+        → on_entries g (λ r. took (run_of at r.next r.count) r.next) Err ≡ list s b later at
+    unfolding list
+    list_on h most f g m p q = rw (← e, not-false on h, ← m, ← p, q)

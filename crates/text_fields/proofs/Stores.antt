@@ -3,31 +3,17 @@ use Prim.Native.Nat.{ℕ, ◌+◌, ◌≤◌, ◌<◌}
 use native.Mathlib.Omega.{arith}
 use mathlib.Core.Path.{◌≡◌, ap, sym, refl, ◌∙◌}
 use mathlib.Core.List.{List, [], ◌∷◌, ◌++◌}
-use mathlib.Core.Bool.{Bool, true, false, not}
-use borrow.Author.Tests.{le-leb, lt-leb, eq-eqb, ne_eqb, not-true, not-false}
+use mathlib.Core.Bool.{Bool, true, false}
+use borrow.Author.Tests.{le-leb, lt-leb}
 use lib.Dec.{leb}
 use lib.ListN.{length, take, drop, length-append}
-use Rattle.octets.specs.Octets.{pick, put, big_endian_bytes, presence}
+use Rattle.octets.specs.Octets.{pick, put, big_endian_bytes}
 use Rattle.octets.proofs.Laws.{put_not, put_nil, put_behind, length_put, length_big_endian_bytes_law}
 use Rattle.text_fields.specs.Fields.{field_of, text_wire, text_meaning}
-use Rattle.text_fields.specs.Steps.{first_bad, behind_put, text_bytes, run_bytes}
-use Rattle.text_fields.specs.declared.MaybeText.{MaybeText}
+use Rattle.text_fields.specs.Steps.{behind_put, text_bytes, run_bytes}
+use Rattle.texts.specs.declared.Text.{Text}
+use Rattle.std.specs.Prelude.{None, Some}
 use Rattle.text_fields.specs.declared.TextList.{TextList}
-
--- ---- the number of a field that can't be, and 6
-
-pub first_bad_before_law : (before number : ℕ) (good : Bool) → (before ≡ 0 → ⊥) → before ≡ first_bad before good number
-unfolding first_bad
-first_bad_before_law before number good h = rw (ne_eqb before 0 h)
-
-module _ (before number : ℕ) (good b : Bool) (h : before ≡ 0) (e : b ≡ good) where
-  pub first_bad_good_law : b ≡ true → 0 ≡ first_bad before good number
-  unfolding first_bad
-  first_bad_good_law k = rw (eq-eqb before 0 h, ← e, k)
-
-  pub first_bad_bad_law : b ≡ false → number ≡ first_bad before good number
-  unfolding first_bad
-  first_bad_bad_law k = rw (eq-eqb before 0 h, ← e, k)
 
 -- ---- stores
 
@@ -56,32 +42,28 @@ nothing_put d at = (go (leb (at + 0) (length d)), sym (put_nil d at))
 
 -- ---- a text, and a list
 
-pub no_text_law : (t : List ℕ) (x : MaybeText) → not x.given ≡ true → text_bytes t x ≡ []
-unfolding text_wire text_meaning presence
-no_text_law t x h = rw (not-true x.given h)
-
-pub some_text : (t : List ℕ) (x : MaybeText) (p : List ℕ) → not x.given ≡ false → p ≡ take x.len (drop x.place t) → text_bytes t x ≡ field_of p
-unfolding text_wire text_meaning presence
-some_text t x p h e = rw (not-false x.given h, e)
+pub some_text : (t : List ℕ) (x : Text) {p : List ℕ} → p ≡ take x.len (drop x.place t) → text_bytes t (Some x) ≡ field_of p
+unfolding text_wire text_meaning
+some_text t x e = rw e
 
 module _ (d : List ℕ) (at : ℕ) (t : List ℕ) where
-  module _ (x : MaybeText) where
-    pub none_put : not x.given ≡ true → Stored d at (text_bytes t x) at d
-    none_put h = rw (no_text_law t x h) (nothing_put d at)
+  pub none_put : Stored d at (text_bytes t None) at d
+  unfolding text_wire text_meaning
+  none_put = nothing_put d at
 
-    module _ (h : not x.given ≡ false) (p : List ℕ) (e : p ≡ take x.len (drop x.place t)) where
-      pub text_not : length d < at + (2 + length p) → Stored d at (text_bytes t x) at d
-      text_not g = rw (some_text t x p h e) (no_room d at (field_of p) (omega (arith, field_length p)))
+  module _ (x : Text) (p : List ℕ) (e : p ≡ take x.len (drop x.place t)) where
+    pub text_not : length d < at + (2 + length p) → Stored d at (text_bytes t (Some x)) at d
+    text_not g = rw (some_text t x e) (no_room d at (field_of p) (omega (arith, field_length p)))
 
-      pub text_put : (d1 d2 : List ℕ) → at + (2 + length p) ≤ length d → d1 ≡ put d at (big_endian_bytes 2 (length p)) → d2 ≡ put d1 (at + 2) p
-          → Stored d at (text_bytes t x) (at + 2 + length p) d2
-      unfolding field_of
-      text_put d1 d2 g q1 q2 =
-          let n : at + 2 + length p ≡ at + length (field_of p) = omega (arith, field_length p) in
-          rw (some_text t x p h e) (
-            n ∙ room d at (field_of p) (omega (arith, field_length p)),
-            q2 ∙ put_behind d d1 at (at + 2) (big_endian_bytes 2 (length p)) p q1 (ap (λ (n : ℕ). at + n) (sym (length_big_endian_bytes_law 2 (length p)))) (omega arith),
-          )
+    pub text_put : (d1 d2 : List ℕ) → at + (2 + length p) ≤ length d → d1 ≡ put d at (big_endian_bytes 2 (length p)) → d2 ≡ put d1 (at + 2) p
+        → Stored d at (text_bytes t (Some x)) (at + 2 + length p) d2
+    unfolding field_of
+    text_put d1 d2 g q1 q2 =
+        let n : at + 2 + length p ≡ at + length (field_of p) = omega (arith, field_length p) in
+        rw (some_text t x e) (
+          n ∙ room d at (field_of p) (omega (arith, field_length p)),
+          q2 ∙ put_behind d d1 at (at + 2) (big_endian_bytes 2 (length p)) p q1 (ap (λ (n : ℕ). at + n) (sym (length_big_endian_bytes_law 2 (length p)))) (omega arith),
+        )
 
   module _ (x : TextList) (p : List ℕ) (e : p ≡ take x.len (drop x.place t)) where
     pub list_none : length p ≡ 0 → Stored d at (run_bytes t x) at d

@@ -3,7 +3,6 @@ ghost use Rattle.std.specs.Prelude.{◌≡◌};
 ghost use Rattle.text_fields.specs.Fields.{entry_end, is_behind, added};
 
 use crate::TextList;
-use crate::fields::Field;
 use answer::Answer;
 
 // What adding an entry answers; the list is as before where it is refused.
@@ -13,14 +12,14 @@ pub struct ListAdded {
     pub list: TextList,
 }
 
-// The place behind the whole good field at a place, 0 where there is none.
-fn entry_end(texts: &[u8], at: usize) -> usize
+// The place behind the whole good field at a place.
+fn entry_end(texts: &[u8], at: usize) -> Option<usize>
     ensures { result ≡ entry_end texts.now at }
 {
     match crate::fields::field_at(texts, at) {
-        Field::Absent => 0,
-        Field::Whole { place, len } => place + len,
-        Field::Faulty(_) => 0,
+        Ok(Some(text)) => Some(text.place + text.len),
+        Ok(None) => None,
+        Err(_) => None,
     }
 }
 
@@ -51,31 +50,32 @@ impl TextList {
                 list: self,
             };
         }
-        let end = entry_end(texts, at);
-        let fits = octets::both(end != 0, is_behind(self, at));
-        if !octets::both(crate::fields::is_list(texts, self), fits) {
-            let answer = Answer::BadText { field };
-            return ListAdded { answer, list: self };
+        let answer = Answer::BadText { field };
+        let refused = ListAdded { answer, list: self };
+        if !octets::both(crate::fields::is_list(texts, self), is_behind(self, at)) {
+            return refused;
         }
+        let Some(end) = entry_end(texts, at) else {
+            return refused;
+        };
         let start = self.place;
         let count = self.count;
-        if self.is_empty() {
-            return ListAdded {
-                answer: Answer::Done,
-                list: TextList {
-                    place: at,
-                    len: end - at,
-                    count: 1,
-                },
-            };
-        }
-        ListAdded {
-            answer: Answer::Done,
-            list: TextList {
+        let list = if self.is_empty() {
+            TextList {
+                place: at,
+                len: end - at,
+                count: 1,
+            }
+        } else {
+            TextList {
                 place: start,
                 len: end - start,
                 count: count + 1,
-            },
+            }
+        };
+        ListAdded {
+            answer: Answer::Done,
+            list,
         }
     }
 }

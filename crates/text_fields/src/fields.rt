@@ -3,65 +3,54 @@ ghost use Rattle.std.specs.Prelude.{◌≡◌};
 ghost use Rattle.text_fields.specs.Fields.{field_at, entries, is_empty, is_list};
 
 use crate::{Fault, TextList};
+use texts::Text;
 
-// What stands at a place: no field, a whole one with its text, or a faulty one.
+// The fields from a place on: how many, and the place behind the last.
 #[derive(Clone, Copy)]
-pub enum Field {
-    Absent,
-    Whole { place: usize, len: usize },
-    Faulty(Fault),
+pub struct Run {
+    pub count: usize,
+    pub next: usize,
 }
 
-// The fields from a place on: how many, and the place behind the last; or the fault in one.
-#[derive(Clone, Copy)]
-pub enum Entries {
-    Run { count: usize, next: usize },
-    Broken(Fault),
-}
-
-pub(crate) fn field_at(s: &[u8], at: usize) -> Field
+// The text of the field at a place, where there is one.
+pub(crate) fn field_at(s: &[u8], at: usize) -> Result<Option<Text>, Fault>
     ensures { result ≡ field_at s.now at }
 {
     let n = s.len();
     if n < 2 {
-        return Field::Absent;
+        return Ok(None);
     }
     if n - 2 < at {
-        return Field::Absent;
+        return Ok(None);
     }
     let place = at + 2;
     let len = octets::number(&s[at..place]) as usize;
     let end = place + len;
     if n < end {
-        return Field::Faulty(Fault::Past { end, len: n });
+        return Err(Fault::Past { end, len: n });
     }
     let text = &s[place..end];
     let good = text::well_formed(text);
     if good < len {
         let place = place + good;
         let bad = text::bad_length(text, good);
-        return Field::Faulty(Fault::Garbled { place, bad });
+        return Err(Fault::Garbled { place, bad });
     }
-    Field::Whole { place, len }
+    Ok(Some(Text { place, len }))
 }
 
 // The fields from a place on while there are any, at most `most`.
-pub(crate) fn entries_at(s: &[u8], at: usize, most: usize) -> Entries
+pub(crate) fn entries_at(s: &[u8], at: usize, most: usize) -> Result<Run, Fault>
     ensures { result ≡ entries most s.now at 0 }
 {
     let mut next = at;
-    let mut count = 0;
-    while count < most {
-        match field_at(s, next) {
-            Field::Absent => return Entries::Run { count, next },
-            Field::Whole { place, len } => {
-                next = place + len;
-                count += 1;
-            }
-            Field::Faulty(fault) => return Entries::Broken(fault),
-        }
+    for count in 0..most {
+        let Some(text) = field_at(s, next)? else {
+            return Ok(Run { count, next });
+        };
+        next = text.place + text.len;
     }
-    Entries::Run { count, next }
+    Ok(Run { count: most, next })
 }
 
 impl TextList {
@@ -84,15 +73,11 @@ pub(crate) fn is_list(texts: &[u8], x: TextList) -> bool
         return true;
     }
     let mut next = place;
-    let mut k = 0;
-    while k < count {
+    for _ in 0..count {
         match field_at(texts, next) {
-            Field::Absent => return false,
-            Field::Whole { place: at, len: n } => {
-                next = at + n;
-                k += 1;
-            }
-            Field::Faulty(_) => return false,
+            Ok(Some(text)) => next = text.place + text.len,
+            Ok(None) => return false,
+            Err(_) => return false,
         }
     }
     next - place == len

@@ -11,14 +11,8 @@ ghost use Rattle.text_fields.specs.Fields.{answer_of};
 
 pub use add::ListAdded;
 use answer::Answer;
-
-// A text that may be absent: its place and its length.
-#[derive(Clone, Copy)]
-pub struct MaybeText {
-    pub given: bool,
-    pub place: usize,
-    pub len: usize,
-}
+pub use read::read_text;
+pub use write::{TextField, first_bad};
 
 // A list of texts: the place and the byte length of a run of fields in wire form, and how many they are.
 #[derive(Clone, Copy)]
@@ -35,31 +29,11 @@ pub enum Fault {
     Garbled { place: usize, bad: usize },
 }
 
-// How far a reader has come: the place behind what it took, or the fault at which it stopped.
+// What a step of a reader took, and the place behind it.
 #[derive(Clone, Copy)]
-pub enum Walk {
-    At(usize),
-    Stopped(Fault),
-}
-
-#[derive(Clone, Copy)]
-pub struct TextStep {
-    pub walk: Walk,
-    pub text: MaybeText,
-}
-
-#[derive(Clone, Copy)]
-pub struct ListStep {
-    pub walk: Walk,
-    pub list: TextList,
-}
-
-impl MaybeText {
-    pub const ABSENT: MaybeText = MaybeText {
-        given: false,
-        place: 0,
-        len: 0,
-    };
+pub struct Step<T> {
+    pub taken: T,
+    pub next: usize,
 }
 
 impl TextList {
@@ -70,12 +44,12 @@ impl TextList {
     };
 }
 
-impl Fault {
-    // The answer to a payload that has it.
-    pub fn answer(self) -> Answer
-        ensures { result ≡ answer_of self }
-    {
-        match self {
+// The answer to a payload that has it.
+impl From<Fault> for Answer {
+    ghost from_gives = { λ fault answer. answer ≡ answer_of fault };
+
+    fn from(fault: Fault) -> Answer {
+        match fault {
             Fault::Past { end, len } => Answer::Short {
                 field: 10,
                 expected: end,

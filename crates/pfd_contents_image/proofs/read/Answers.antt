@@ -1,9 +1,10 @@
 -- `pfd_contents_image::read` meets its contract: by the room and the payload's length, then by the fields.
 use borrow.Author.Rules.{rules}
-use Rattle.pfd_contents.specs.PfdContents.{read_fields, read}
+use mathlib.Core.Path.{ap, ◌∙◌}
+use Rattle.pfd_contents.specs.PfdContents.{refused, read}
 use Rattle.pfd_contents.proofs.Returns.{too_long, too_short, enough}
 use Rattle.image.proofs.Laws.{read_short, read_long}
-use Rattle.pfd_contents_image.proofs.Reading.{same, refusal}
+use Rattle.pfd_contents_image.proofs.Reading.{accepted, refusal}
 use Rattle.pfd_contents_image.proofs.read.Goals as goal
 
 pub returns-then-image-lt-SIZE : goal.returns-then-image-lt-SIZE
@@ -15,5 +16,15 @@ returns-then-n-gt65535 c = let all = read_long _ _ _ (search rules) (refusal rea
 pub returns-then-n-lt2 : goal.returns-then-n-lt2
 returns-then-n-lt2 c = let all = read_long _ _ _ (search rules) (refusal read _ _ _ (c.put_short.ensures.value, c.put_short.ensures.out_after) (search too_short)) in record { value = all.0; image_after = all.1 }
 
-pub returns : goal.returns
-returns c = let all = read_long _ _ _ (search rules) (same read _ _ (read_fields _ _) (c.read_fields.ensures.value, c.read_fields.ensures.image_after) (search enough)) in record { value = all.0; image_after = all.1 }
+pub put_image-requires : goal.put_image-requires
+put_image-requires c = search rules
+
+pub returns-in-Ok : goal.returns-in-Ok
+returns-in-Ok c =
+    let all = read_long _ _ _ (search rules) (accepted read _ _ c.put_image.ensures (enough _ _ c.if-n-gt65535.false c.if-n-lt2.false (rw c.in-Ok.is at c.read_fields.ensures))) in
+    record { value = all.0; image_after = all.1 }
+
+pub returns-in-Err : goal.returns-in-Err
+returns-in-Err c =
+    let all = read_long _ _ _ (search rules) (refusal read _ _ _ (c.put_refused-in-Err.ensures.value, c.put_refused-in-Err.ensures.out_after) (enough _ _ c.if-n-gt65535.false c.if-n-lt2.false (ap refused c.from.ensures ∙ (rw c.in-Err.is at c.read_fields.ensures)))) in
+    record { value = all.0; image_after = all.1 }

@@ -6,12 +6,13 @@ use mathlib.Core.Bool.{Bool}
 use mathlib.Core.List.{List}
 use lib.ListN.{get_or}
 use Rattle.octets.specs.Octets.{bit}
-use Rattle.text_fields.specs.declared.MaybeText.{MaybeText}
+use Rattle.std.specs.Prelude.{Option}
+use Rattle.texts.specs.declared.Text.{Text}
 use Rattle.text_fields.specs.declared.TextList.{TextList}
 use Rattle.pfd_contents_image.specs.PfdContentsImage.{flags_at, given_at, flow_at, url_at, domain_at, custom_at, protocol_at, flows_at, urls_at, names_at, text_at, list_at, record_at}
 use Rattle.pfd_contents_image.proofs.record_at.Goals as goal
 
-found : (m : List ℕ) (f g : ℕ) (b0 b1 b2 b3 b4 : Bool) (flow url domain custom protocol : MaybeText) (flows urls names : TextList)
+found : (m : List ℕ) (f g : ℕ) (b0 b1 b2 b3 b4 : Bool) (flow url domain custom protocol : Option Text) (flows urls names : TextList)
     → f ≡ get_or m flags_at 0
     → g ≡ get_or m given_at 0
     → b0 ≡ bit 0 g

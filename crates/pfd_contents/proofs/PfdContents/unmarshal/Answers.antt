@@ -1,4 +1,6 @@
 -- `pfd_contents::PfdContents::unmarshal` meets its contract: by the length, then by the fields.
+use mathlib.Core.Path.{ap, ◌∙◌}
+use Rattle.pfd_contents.specs.PfdContents.{refused}
 use Rattle.pfd_contents.proofs.Returns.{too_long, too_short, enough}
 use Rattle.pfd_contents.proofs.PfdContents.unmarshal.Goals as goal
 
@@ -8,5 +10,8 @@ returns-then-n-gt65535 c = search too_long
 pub returns-then-n-lt2 : goal.returns-then-n-lt2
 returns-then-n-lt2 c = search too_short
 
-pub returns : goal.returns
-returns c = search enough
+pub returns-in-Ok : goal.returns-in-Ok
+returns-in-Ok c = enough _ _ c.if-n-gt65535.false c.if-n-lt2.false (rw c.in-Ok.is at c.read_fields.ensures)
+
+pub returns-in-Err : goal.returns-in-Err
+returns-in-Err c = enough _ _ c.if-n-gt65535.false c.if-n-lt2.false (c.refused-in-Err.ensures ∙ ap refused c.from.ensures ∙ (rw c.in-Err.is at c.read_fields.ensures))

@@ -5,8 +5,8 @@ use Rattle.pfd_contents.proofs.build.PfdContentsBuilder.build.Goals as goal
 pub returns-then-n-gt65535 : goal.returns-then-n-gt65535
 returns-then-n-gt65535 c = search build_long
 
-pub returns-then-bad-ne0 : goal.returns-then-bad-ne0
-returns-then-bad-ne0 c = search build_bad
+pub returns-in-Some : goal.returns-in-Some
+returns-in-Some c = search build_bad
 
 pub returns-then-record-eq0 : goal.returns-then-record-eq0
 returns-then-record-eq0 c = search build_none
