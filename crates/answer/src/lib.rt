@@ -57,11 +57,39 @@ pub enum Answer {
 #[derive(Clone, Copy)]
 pub struct Values(pub usize, pub usize, pub usize);
 
+// What reading a payload answers; document 01 gives a refused read the empty record and used 0, so it is no `Result`.
+#[derive(Clone, Copy)]
+pub struct Read<T> {
+    pub answer: Answer,
+    pub used: usize,
+    pub record: T,
+}
+
+// What a build answers; for the same reason a refused one has the empty record.
+#[derive(Clone, Copy)]
+pub struct Built<T> {
+    pub answer: Answer,
+    pub record: T,
+}
+
 // What a write answers, with the written length.
 #[derive(Clone, Copy)]
 pub struct Written {
     pub answer: Answer,
     pub len: usize,
+}
+
+impl<T> Read<T> {
+    // A read that is refused: its record is the empty one.
+    pub fn refused(answer: Answer, empty: T) -> Read<T>
+        ensures { result ≡ record { answer = answer; used = 0; «record» = empty } }
+    {
+        Read {
+            answer,
+            used: 0,
+            record: empty,
+        }
+    }
 }
 
 impl Answer {

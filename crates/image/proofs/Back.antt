@@ -6,10 +6,10 @@ use mathlib.Core.Path.{◌≡◌, refl, sym, ap, ◌∙◌}
 use mathlib.Core.Bool.{Bool, true, false}
 use mathlib.Core.List.{List, [], ◌∷◌, ◌++◌, append_assoc, append-nil}
 use lib.Dec.{eqb, lit<}
-use lib.ListN.{length, take, drop, get_or, replicate, length-append}
+use lib.ListN.{length, take, drop, get_or, replicate, length-append, length-replicate}
 use lib.Pow.{shr-shr}
 use lib.Seq.{take_at, drop_at, drop-drop, get_or-drop}
-use borrow.Author.Tests.{le-leb, eqb-true}
+use borrow.Author.Tests.{le-leb, eqb-true, ne_eqb}
 use Rattle.answer.specs.declared.Answer.{Answer}
 use Rattle.answer.specs.declared.Answer.TheVariants.{Done}
 use Rattle.answer.specs.declared.Written.{Written}
@@ -20,9 +20,10 @@ use Rattle.octets.specs.declared.MaybeIpv4.{MaybeIpv4}
 use Rattle.octets.specs.declared.MaybeIpv6.{MaybeIpv6}
 use Rattle.octets.specs.declared.MaybeU16.{MaybeU16}
 use Rattle.octets.specs.declared.MaybeU32.{MaybeU32}
-use Rattle.octets.specs.Octets.{pick, bit, if_set, flag_byte, Bytes, field, big_endian, is_number, u16_of, u32_of, ipv4_of, ipv6_of, over, put}
+use Rattle.octets.specs.Octets.{pick, bit, if_set, flag_byte, Bytes, field, big_endian, is_number, address_of, u16_of, u32_of, ipv4_of, ipv6_of, over, put}
 use Rattle.octets.proofs.Laws.{bytes_take, bytes_drop, big_endian_less_law, number_below, number_fits, ipv4_octets, ipv6_octets, put_fits}
-use Rattle.image.specs.Image.{little_endian_bytes, little_endian, number_at, bytes_or_zeros, head, read_image}
+use Rattle.std.specs.Prelude.{Option, Some, None, is_some, unwrap_or}
+use Rattle.image.specs.Image.{address_bytes, little_endian_bytes, little_endian, number_at, bytes_or_zeros, head, read_image}
 use Rattle.image.proofs.Laws.{length_little_endian_bytes_law, length_either, length_head}
 
 -- ---- numbers and flags
@@ -118,7 +119,29 @@ apart xs zs ys h = record { rest = h.rest; is = h.is ∙ ap (λ (l : List ℕ). 
 pub last : {m xs : List ℕ} {at : ℕ} → Stands m at xs → Stands m at (xs ++ [])
 last {xs = xs} h = record { rest = h.rest; is = h.is ∙ ap (λ (l : List ℕ). l ++ h.rest) (sym (append-nil xs)) }
 
--- an address as a reader gives it, given or absent
+-- an address as a reader gives it, there or absent
+module _ (n : ℕ) (bs : List ℕ) where
+  pub length_address : length (address_bytes n (address_of n bs)) ≡ n
+  unfolding address_bytes address_of
+  length_address = go (eqb (length bs) n) refl
+    where
+      go : (t : Bool) → eqb (length bs) n ≡ t → length (unwrap_or (pick t (Some bs) None) (replicate n 0)) ≡ n
+      go true q = eqb-true (length bs) n q
+      go false q = length-replicate n 0
+
+  pub address : {m ys : List ℕ} {at : ℕ} → 0 < n → Stands m at (address_bytes n (address_of n bs) ++ ys)
+      → (address_of n (field m at (if_set (is_some (address_of n bs)) n)) ≡ address_of n bs) × Stands m (at + n) ys
+  unfolding address_bytes address_of if_set
+  address {m} {ys} {at} some h = (go (eqb (length bs) n) refl h, (part (address_bytes n (address_of n bs)) n length_address h).1)
+    where
+      nothing : eqb 0 n ≡ false
+      nothing = ne_eqb 0 n (λ e. absurd (omega arith))
+
+      go : (t : Bool) → eqb (length bs) n ≡ t → Stands m at (unwrap_or (pick t (Some bs) None) (replicate n 0) ++ ys)
+          → address_of n (field m at (if_set (is_some (pick t (Some bs) None)) n)) ≡ pick t (Some bs) None
+      go true q h = rw ((part {ys = ys} bs n (eqb-true (length bs) n q) h).0, q)
+      go false q h = rw nothing
+
 module _ (bs : List ℕ) where
   abbrev of4 : Bool → MaybeIpv4
   of4 t = pick t (record { given = true; octets = bs }) (record { given = false; octets = replicate 4 0 })

@@ -1,5 +1,5 @@
 -- Record images: what a read or a write hands over, in lent bytes of a fixed layout.
-use Rattle.std.specs.Prelude.{ℕ, zero, suc, ◌+◌, ◌-◌, ◌*◌, ◌/◌, ◌%◌, Bool, ◌&&◌, List, [], ◌∷◌, ◌++◌, leb, length, replicate}
+use Rattle.std.specs.Prelude.{ℕ, zero, suc, ◌+◌, ◌-◌, ◌*◌, ◌/◌, ◌%◌, Bool, ◌&&◌, List, [], ◌∷◌, ◌++◌, leb, length, replicate, Option, unwrap_or}
 use Rattle.answer.specs.declared.Answer.{Answer}
 use Rattle.answer.specs.declared.Written.{Written}
 use Rattle.answer.specs.Paper.{number_of, values_of}
@@ -22,6 +22,10 @@ number_at m at = little_endian (field m at 8)
 -- the w bytes of a field, zeros where it is absent
 unfoldable pub bytes_or_zeros : ℕ → Bool → List ℕ → List ℕ
 bytes_or_zeros w given bs = pick given bs (replicate w 0)
+
+-- the n bytes of an address, zeros where it is absent
+unfoldable pub address_bytes : ℕ → Option (List ℕ) → List ℕ
+address_bytes n a = unwrap_or a (replicate n 0)
 
 -- what an image begins with: the answer's number and values, and the used count
 unfoldable pub head : Answer → ℕ → List ℕ

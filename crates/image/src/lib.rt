@@ -2,11 +2,11 @@
 // least significant first, which the compiler joins into one store.
 #![tactic(auto)]
 
-ghost use Rattle.std.specs.Prelude.{◌≡◌, ◌∷◌, [], ◌&&◌, ◌+◌, ◌*◌, get_or, leb};
+ghost use Rattle.std.specs.Prelude.{◌≡◌, ◌∷◌, [], ◌&&◌, ◌+◌, ◌*◌, get_or, leb, unwrap_or, None};
 ghost use Rattle.answer.specs.declared.Answer.TheVariants.{Short, Flags};
 ghost use Rattle.answer.specs.Paper.{number_of};
-ghost use Rattle.octets.specs.Octets.{if_set, field, u16_of, u32_of, ipv4_of, ipv6_of, put};
-ghost use Rattle.image.specs.Image.{little_endian_bytes, number_at, head_size, head, refusal_image, report};
+ghost use Rattle.octets.specs.Octets.{pick, if_set, field, u16_of, u32_of, ipv4_of, ipv6_of, put, address_of, number_of as number_in};
+ghost use Rattle.image.specs.Image.{little_endian_bytes, number_at, head_size, head, refusal_image, report, address_bytes};
 
 use answer::{Answer, Written};
 use octets::{MaybeIpv4, MaybeIpv6, MaybeU16, MaybeU32};
@@ -91,6 +91,26 @@ pub fn ipv6_at(bytes: &[u8], at: usize, given: bool) -> MaybeIpv6
     ensures { result ≡ ipv6_of (field bytes.now at (if_set given 16)) }
 {
     MaybeIpv6::of(texts::part(bytes, at, octets::if_set(given, 16)))
+}
+
+pub fn address_at<const N: usize>(bytes: &[u8], at: usize, given: bool) -> Option<[u8; N]>
+    ensures { result ≡ address_of N (field bytes.now at (if_set given N)) }
+{
+    octets::address(texts::part(bytes, at, octets::if_set(given, N)))
+}
+
+// Puts an address at a place, zeros where there is none.
+pub fn put_address<const N: usize>(out: &mut [u8], at: usize, address: Option<[u8; N]>)
+    ensures { out.new ≡ put out.old at (address_bytes N address.entry) }
+{
+    octets::put_bytes(out, at, &address.unwrap_or([0; N]));
+}
+
+// The number at a place of a payload, as wide as is said and W bytes at most, 0 where it isn't given.
+pub fn number_or_zero<const W: usize>(bytes: &[u8], at: usize, width: usize, given: bool) -> u64
+    ensures { result ≡ unwrap_or (pick (leb W 8) (number_in W (field bytes.now at (if_set given width))) None) 0 }
+{
+    octets::number_of::<W>(texts::part(bytes, at, octets::if_set(given, width))).unwrap_or(0)
 }
 
 // The number at a place of a payload, 0 where it isn't given.

@@ -13,12 +13,13 @@ use lib.Pow.{mod-pow-add, shr-shr}
 use lib.Dec.{leb, eqb, lit<, ltb}
 use borrow.Author.Tests.{le-leb, lt-leb, lt-ltb, leb-true, leb-false, eq-eqb, eqb-false, not-true, not-false}
 use borrow.Rule.Slice.PartMut.{mid_of, put_mid}
+use Rattle.std.specs.Prelude.{Option, Some, None, IfSome, is_some}
 use Rattle.octets.specs.declared.MaybeIpv4.{MaybeIpv4}
 use Rattle.octets.specs.declared.MaybeIpv6.{MaybeIpv6}
 use Rattle.octets.specs.declared.MaybeU8.{MaybeU8}
 use Rattle.octets.specs.declared.MaybeU16.{MaybeU16}
 use Rattle.octets.specs.declared.MaybeU32.{MaybeU32}
-use Rattle.octets.specs.Octets.{pick, bit, if_set, flag_byte, Bytes, field, behind, big_endian, big_endian_bytes, bytes_if, is_number, u8_of, u16_of, u32_of, number_if, u8_meaning, u16_meaning, u32_meaning, ipv4_of, ipv6_of, presence, ipv4_meaning, ipv6_meaning, over, put}
+use Rattle.octets.specs.Octets.{pick, bit, if_set, flag_byte, Bytes, field, behind, big_endian, big_endian_bytes, bytes_if, is_number, address_of, number_of, u8_of, u16_of, u32_of, number_if, u8_meaning, u16_meaning, u32_meaning, ipv4_of, ipv6_of, presence, ipv4_meaning, ipv6_meaning, over, put}
 
 -- ---- flags
 pub if_set_le_law : (f : Bool) (n : ℕ) → if_set f n ≤ n
@@ -323,6 +324,11 @@ module _ (f : Bool) (w : ℕ) (bs : List ℕ) (b : Bytes bs) (h : 0 < w) (e : le
   pub number_again : number_if w (presence f (big_endian bs)) ≡ bs
   number_again = number_back f refl e
 
+  -- of one that stands in its record
+  pub number_written : (m : ℕ) → w ≤ m → number_if w (number_of m bs) ≡ bs
+  unfolding number_of presence
+  number_written m k = rw (number_there m k f refl e) number_again
+
   -- of one of two, one that is given and one that is absent
   means_either : {R : Type 0} (given : R → Bool) (value : R → ℕ) (x y : R) → given x ≡ true → value x ≡ big_endian bs → given y ≡ false → (t : Bool) → presence (given (pick t x y)) (value (pick t x y)) ≡ presence t (big_endian bs)
   unfolding presence
@@ -341,7 +347,19 @@ module _ (f : Bool) (w : ℕ) (bs : List ℕ) (b : Bytes bs) (h : 0 < w) (e : le
   unfolding u32_of
   u32_bytes k = rw (number_there 4 k f refl e) (ap (number_if w) (means_either (λ (x : MaybeU32). x.given) (λ (x : MaybeU32). x.value) _ _ refl refl refl f) ∙ number_back f refl e)
 
+-- how long a number is that may be absent
+pub length_number_if : (w : ℕ) (o : Option ℕ) → length (number_if w o) ≡ if_set (is_some o) w
+unfolding number_if if_set
+length_number_if w (Some x) = length_big_endian_bytes_law w x
+length_number_if w None = refl
+
 -- ---- addresses
+-- how long an address is that may be absent
+pub length_bytes_if : (n : ℕ) (o : Option (List ℕ)) → IfSome o (λ bs. length bs ≡ n) → length (bytes_if o) ≡ if_set (is_some o) n
+unfolding bytes_if if_set
+length_bytes_if n (Some bs) e = e
+length_bytes_if n None e = refl
+
 pub given_length : (g : Bool) (n : ℕ) (bs : List ℕ) → length bs ≡ n → length (bytes_if (presence g bs)) ≡ if_set g n
 unfolding bytes_if if_set presence
 given_length true n bs e = e
@@ -359,6 +377,15 @@ module _ (f : Bool) (bs : List ℕ) where
       empty false [] e q = refl
       empty false (b ∷ bs) e q = absurd (omega arith)
 
+  pub address_written : (n : ℕ) → 0 < n → length bs ≡ if_set f n → bytes_if (address_of n bs) ≡ bs
+  unfolding address_of if_set bytes_if
+  address_written zero h e = absurd (omega arith)
+  address_written (suc n) h e = go (eqb (length bs) (suc n)) refl
+    where
+      go : (t : Bool) → eqb (length bs) (suc n) ≡ t → bytes_if (pick t (Some bs) None) ≡ bs
+      go true q = refl
+      go false q = some_or_none n e false q
+
   bytes_either : {R : Type 0} (given : R → Bool) (octets : R → List ℕ) (x y : R) (n : ℕ) → given x ≡ true → octets x ≡ bs → given y ≡ false → length bs ≡ if_set f (suc n) → (t : Bool) → eqb (length bs) (suc n) ≡ t
       → bytes_if (presence (given (pick t x y)) (octets (pick t x y))) ≡ bs
   unfolding presence bytes_if
@@ -374,6 +401,10 @@ module _ (f : Bool) (bs : List ℕ) where
   ipv6_bytes e = bytes_either (λ (x : MaybeIpv6). x.given) (λ (x : MaybeIpv6). x.octets) _ _ 15 refl refl refl e (eqb (length bs) 16) refl
 
 -- the bytes of an address that is there
+pub address_there : (n : ℕ) (bs : List ℕ) → length bs ≡ n → address_of n bs ≡ Some bs
+unfolding address_of
+address_there n bs e = rw (eq-eqb (length bs) n e)
+
 pub ipv4_octets : (bs : List ℕ) → length bs ≡ 4 → (ipv4_of bs).octets ≡ bs
 unfolding ipv4_of
 ipv4_octets bs e = rw (eq-eqb (length bs) 4 e)

@@ -55,6 +55,10 @@ ipv4_of bs = pick (eqb (length bs) 4) (record { given = true; octets = bs }) (re
 unfoldable pub ipv6_of : List ℕ → MaybeIpv6
 ipv6_of bs = pick (eqb (length bs) 16) (record { given = true; octets = bs }) (record { given = false; octets = replicate 16 0 })
 
+-- the n bytes of an address, absent where they are another number of bytes
+unfoldable pub address_of : ℕ → List ℕ → Option (List ℕ)
+address_of n bs = pick (eqb (length bs) n) (Some bs) None
+
 -- what a field beside a flag means: what stands in an absent one doesn't count
 unfoldable pub presence : {A : Type 0} → Bool → A → Option A
 presence given x = pick given (Some x) None
@@ -68,6 +72,9 @@ ipv6_meaning a = presence a.given a.octets
 -- the number of these bytes, where there are one to w of them; absent (and 0) otherwise
 abbrev pub is_number : ℕ → List ℕ → Bool
 is_number w bs = ltb 0 (length bs) && leb (length bs) w
+
+unfoldable pub number_of : ℕ → List ℕ → Option ℕ
+number_of w bs = pick (is_number w bs) (Some (big_endian bs)) None
 
 unfoldable pub u8_of : List ℕ → MaybeU8
 u8_of bs = pick (is_number 1 bs) (record { given = true; value = big_endian bs }) (record { given = false; value = 0 })

@@ -1,8 +1,8 @@
 // Bytes as flags, numbers and addresses, and bytes put into an output. Every call is total: bytes that don't fit aren't put.
 #![tactic(auto)]
 
-ghost use Rattle.std.specs.Prelude.{◌≡◌, ◌∷◌, [], true, ◌&&◌, ◌||◌, ◌+◌, ◌-◌, ◌*◌, ◌/◌, ◌%◌, ◌≤◌, ◌<◌, ◌^◌, length, get_or, replicate, leb};
-ghost use Rattle.octets.specs.Octets.{pick, bit, if_set, flag_byte, big_endian, big_endian_bytes, is_number, ipv4_of, ipv6_of, u8_of, u16_of, u32_of, presence, ipv4_meaning, ipv6_meaning, bytes_if, number_if, put};
+ghost use Rattle.std.specs.Prelude.{◌≡◌, ◌∷◌, [], true, ◌&&◌, ◌||◌, ◌+◌, ◌-◌, ◌*◌, ◌/◌, ◌%◌, ◌≤◌, ◌<◌, ◌^◌, length, get_or, replicate, leb, IfSome, None};
+ghost use Rattle.octets.specs.Octets.{pick, bit, if_set, flag_byte, big_endian, big_endian_bytes, is_number, ipv4_of, ipv6_of, u8_of, u16_of, u32_of, presence, ipv4_meaning, ipv6_meaning, bytes_if, number_if, put, address_of, number_of};
 
 // An IPv4 address that may be absent.
 #[derive(Clone, Copy)]
@@ -214,6 +214,13 @@ impl MaybeIpv6 {
     }
 }
 
+// The address of just these bytes: there are as many as it has.
+pub fn address<const N: usize>(bs: &[u8]) -> Option<[u8; N]>
+    ensures { result ≡ address_of N bs.now }
+{
+    <[u8; N]>::try_from(bs).ok()
+}
+
 // Whether there are one to w bytes.
 fn is_number(bs: &[u8], w: usize) -> bool
     ensures { result ≡ is_number w bs.now }
@@ -222,6 +229,20 @@ fn is_number(bs: &[u8], w: usize) -> bool
         return false;
     }
     bs.len() <= w
+}
+
+// The number of these bytes, where there are one to W.
+pub fn number_of<const W: usize>(bs: &[u8]) -> Option<u64>
+    ensures value { result ≡ pick (leb W 8) (number_of W bs.now) None }
+    ensures upper_bound { IfSome result (λ x. x < 256 ^ W) }
+{
+    if 8 < W {
+        return None;
+    }
+    if !is_number(bs, W) {
+        return None;
+    }
+    Some(number(bs))
 }
 
 impl MaybeU8 {
@@ -426,6 +447,30 @@ pub fn put_ipv6(out: &mut [u8], at: usize, a: MaybeIpv6)
         a.octets[14],
         a.octets[15],
     );
+}
+
+// Puts an address at a place, where there is one.
+pub fn put_address<const N: usize>(out: &mut [u8], at: usize, address: Option<[u8; N]>)
+    ensures { out.new ≡ put out.old at (bytes_if address.entry) }
+{
+    let Some(octets) = address else {
+        return;
+    };
+    if !has_room(out.len(), at, N) {
+        return;
+    }
+    for i in 0..N {
+        out[at + i] = octets[i];
+    }
+}
+
+// Puts a number at a place, as w bytes, where there is one.
+pub fn put_number_if(out: &mut [u8], at: usize, w: usize, x: Option<u64>)
+    ensures { out.new ≡ put out.old at (number_if w x) }
+{
+    if let Some(x) = x {
+        put_number(out, at, w, x);
+    }
 }
 
 // Puts a number at a place, as w bytes, where it is given.
