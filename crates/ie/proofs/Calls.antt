@@ -1,29 +1,28 @@
 -- The whole call, by the tests of the code.
-use Prim.Native.Nat.{ℕ, ◌+◌, ◌≤◌, ◌<◌}
-use mathlib.Core.Path.{◌≡◌, refl, sym, ◌∙◌}
-use mathlib.Core.List.{List}
-use mathlib.Core.Bool.{true}
+use Prim.Native.Nat.{ℕ, ◌≤◌, ◌<◌}
+use mathlib.Core.Path.{◌≡◌, ap, sym, ◌∙◌}
+use mathlib.Core.List.{List, [], ◌++◌}
 use native.Mathlib.Omega.{arith}
-use lib.ListN.{length}
+use lib.ListN.{length, take, drop}
+use Rattle.std.proofs.lemmas.List.{length-take-le}
 use borrow.Author.Tests.{le-leb, lt-leb}
-use Rattle.answer.specs.declared.Answer.{Answer}
 use Rattle.answer.specs.declared.Answer.TheVariants.{Done, InputTooLong, NoRoom}
-use Rattle.ie.proofs.Tables.{Table}
+use Rattle.ie.proofs.Tables.{Table, is_all}
 use Rattle.ie.specs.Ie.{Rows, all, guilty, ies, refused_at, answered, read_all, filled, tabled}
-use Rattle.ie.specs.Steps.{counted, fits}
+use Rattle.ie.specs.Steps.{counted, HasRows}
 use Rattle.ie.specs.declared.IesRead.{IesRead}
-use Rattle.ie.specs.declared.Counted.{Counted}
-use Rattle.ie.specs.declared.Counted.TheVariants.{All, Guilty}
+use Rattle.ie.specs.declared.Guilty.{Guilty}
+use Rattle.std.specs.Prelude.{Result, Ok, Err}
 
-is_all : (r : Rows) {n : ℕ} → counted 0 r ≡ All n → (rows : Table) × (r ≡ all rows) × (length rows ≡ n)
-unfolding counted
-is_all (all rows) {n} q = (rows, refl, (let z : 0 + length rows ≡ n = cc in omega arith))
-is_all (guilty place a) q = let y : ◌≡◌ {A = ℕ} 0 1 = cc in absurd (omega arith)
+-- what a count that found a guilty one says
+blamed : Result ℕ Guilty → Rows
+blamed (Ok n) = all []
+blamed (Err g) = guilty g.place g.answer
 
-is_guilty : (r : Rows) {place : ℕ} {a : Answer} → counted 0 r ≡ Guilty place a → r ≡ guilty place a
-unfolding counted
+is_guilty : (r : Rows) {g : Guilty} → counted 0 r ≡ Err g → r ≡ guilty g.place g.answer
+unfolding counted blamed
 is_guilty (all rows) q = let y : ◌≡◌ {A = ℕ} 0 1 = cc in absurd (omega arith)
-is_guilty (guilty place a) q = cc
+is_guilty (guilty place a) q = ap blamed q
 
 module _ (zs body : List ℕ) (table : Table) where
   module _ (long : 65535 < length body) where
@@ -35,9 +34,9 @@ module _ (zs body : List ℕ) (table : Table) where
     unfolding tabled
     too_long_left = rw (lt-leb _ _ long)
 
-  module _ (small : length body ≤ 65535) {k : Counted} (e : k ≡ counted 0 (ies zs 0 body)) where
-    module _ {place : ℕ} {a : Answer} (q : k ≡ Guilty place a) where
-      pub refused : {r : IesRead} → r ≡ refused_at place a → r ≡ read_all zs body (length table)
+  module _ (small : length body ≤ 65535) {k : Result ℕ Guilty} (e : k ≡ counted 0 (ies zs 0 body)) where
+    module _ {g : Guilty} (q : k ≡ Err g) where
+      pub refused : {r : IesRead} → r ≡ refused_at g.place g.answer → r ≡ read_all zs body (length table)
       unfolding read_all answered
       refused p = rw (le-leb _ _ small, is_guilty (ies zs 0 body) (sym e ∙ q)) p
 
@@ -45,7 +44,7 @@ module _ (zs body : List ℕ) (table : Table) where
       unfolding tabled filled
       refused_left = rw (le-leb _ _ small, is_guilty (ies zs 0 body) (sym e ∙ q))
 
-    module _ {n : ℕ} (q : k ≡ All n) where
+    module _ {n : ℕ} (q : k ≡ Ok n) where
       here : (rows : Table) × (ies zs 0 body ≡ all rows) × (length rows ≡ n)
       here = is_all (ies zs 0 body) (sym e ∙ q)
 
@@ -57,14 +56,17 @@ module _ (zs body : List ℕ) (table : Table) where
       unfolding tabled filled
       no_room_left h = rw (le-leb _ _ small, here.1, here.2, lt-leb _ _ h)
 
-      pub has_room : n ≤ length table → fits (ies zs 0 body) (length table) ≡ true
-      unfolding fits
-      has_room h = rw (here.1, here.2, le-leb _ _ h)
-
       pub done : n ≤ length table → record { answer = Done; rows = n; place = 0 } ≡ read_all zs body (length table)
       unfolding read_all answered
       done h = rw (le-leb _ _ small, here.1, here.2, le-leb _ _ h)
 
-    pub done_table : {last : Table} → last ≡ filled table (ies zs 0 body) → last ≡ tabled zs body table
-    unfolding tabled
-    done_table p = rw (le-leb _ _ small) p
+      pub done_table : {last : Table} → ((types : List ℕ) → HasRows types body (length (take n table)) → ies types 0 body ≡ all last) → n ≤ length table → last ++ drop n table ≡ tabled zs body table
+      unfolding tabled filled
+      done_table {last} f h =
+          let l : length (take n table) ≡ n = length-take-le n table h in
+          let k : HasRows zs body n = sym e ∙ q in
+          let w : ies zs 0 body ≡ all last = f zs (rw l k) in
+          let z = is_all (ies zs 0 body) k in
+          let y : last ≡ z.0 = cc (w, z.1) in
+          let m : length last ≡ n = ap length y ∙ z.2 in
+          rw (le-leb _ _ small, w, m, le-leb _ _ h)

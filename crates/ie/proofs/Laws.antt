@@ -16,8 +16,7 @@ use Rattle.ie.proofs.Envelopes.{ends, not_done, record_ends}
 use Rattle.ie.proofs.Tables.{Table}
 use Rattle.ie.proofs.Walks.{turn, none_left}
 use Rattle.ie.specs.declared.IesRead.{IesRead}
-use Rattle.ie.specs.declared.Envelope.{Envelope}
-use Rattle.ie.specs.declared.Envelope.TheVariants.{Whole, Refused}
+use Rattle.std.specs.Prelude.{Result, Ok, Err}
 use Rattle.ie.specs.Ie.{Rows, all, guilty, before, on_envelope, pair_at, type_of, extra, record_of, row_of, envelope, found, read, refused, ies, done_with, refused_at, answered, read_all, filled, tabled}
 use Rattle.ie.specs.Laws.{place_in, len_in, OneAfterAnother, Covers, Numbered, Owed, Laws}
 
@@ -29,16 +28,16 @@ module _ (zs : List ℕ) (at : ℕ) (s : List ℕ) where
     unfolding read
     is_found = rw (le-leb _ _ small)
 
-    next_by : (o : Envelope) → o ≡ envelope zs s → (found s o).answer ≡ Done
+    next_by : (o : Result ℕ Answer) → o ≡ envelope zs s → (found s o).answer ≡ Done
         → on_envelope at s o (λ end. ies zs (at + end) (drop end s)) ≡ before (row_of at (found s o).«record») (ies zs (at + (found s o).used) (drop (found s o).used s))
     unfolding found refused
-    next_by (Whole end) e q = refl
-    next_by (Refused a) e q = absurd (not_done zs s e refl q)
+    next_by (Ok end) e q = refl
+    next_by (Err a) e q = absurd (not_done zs s e refl q)
 
-    stop_by : (o : Envelope) → ((found s o).answer ≡ Done → ⊥) → on_envelope at s o (λ end. ies zs (at + end) (drop end s)) ≡ guilty at (found s o).answer
+    stop_by : (o : Result ℕ Answer) → ((found s o).answer ≡ Done → ⊥) → on_envelope at s o (λ end. ies zs (at + end) (drop end s)) ≡ guilty at (found s o).answer
     unfolding found refused
-    stop_by (Whole end) n = absurd (n refl)
-    stop_by (Refused a) n = refl
+    stop_by (Ok end) n = absurd (n refl)
+    stop_by (Err a) n = refl
 
   pub one_after_another : OneAfterAnother zs at s
   one_after_another =
@@ -51,18 +50,18 @@ module _ (zs : List ℕ) (at : ℕ) (s : List ℕ) where
 -- along the IEs of some bytes: a fact of every end, every guilty IE, every step
 module _ (zs : List ℕ) (P : ℕ → List ℕ → Rows → Type 0)
     (end : (at : ℕ) (s : List ℕ) → length s ≡ 0 → P at s (all []))
-    (stop : (at : ℕ) (s : List ℕ) (a : Answer) → 0 < length s → Refused a ≡ envelope zs s → P at s (guilty at a))
-    (step : (at : ℕ) (s : List ℕ) (n : ℕ) → Whole n ≡ envelope zs s → P (at + n) (drop n s) (ies zs (at + n) (drop n s))
+    (stop : (at : ℕ) (s : List ℕ) (a : Answer) → 0 < length s → Err a ≡ envelope zs s → P at s (guilty at a))
+    (step : (at : ℕ) (s : List ℕ) (n : ℕ) → Ok n ≡ envelope zs s → P (at + n) (drop n s) (ies zs (at + n) (drop n s))
     → P at s (before (row_of at (record_of s)) (ies zs (at + n) (drop n s)))) where
   by : (most at : ℕ) (s : List ℕ) → length s ≤ most → P at s (ies zs at s)
   by zero at s h = let z : ies zs at s ≡ all [] = none_left zs at s h in rw z (end at s (omega arith))
   by (suc most) at [] h = let z : ies zs at [] ≡ all [] = none_left zs at [] (omega arith) in rw z (end at [] refl)
   by (suc most) at (b ∷ s) h = rw (turn zs at (b ∷ s) (omega arith)) (go (envelope zs (b ∷ s)) refl (by most))
     where
-      go : (o : Envelope) → o ≡ envelope zs (b ∷ s) → ((at : ℕ) (s : List ℕ) → length s ≤ most → P at s (ies zs at s))
+      go : (o : Result ℕ Answer) → o ≡ envelope zs (b ∷ s) → ((at : ℕ) (s : List ℕ) → length s ≤ most → P at s (ies zs at s))
           → P at (b ∷ s) (on_envelope at (b ∷ s) o (λ n. ies zs (at + n) (drop n (b ∷ s))))
-      go (Refused a) q ih = stop at (b ∷ s) a (omega arith) q
-      go (Whole n) q ih =
+      go (Err a) q ih = stop at (b ∷ s) a (omega arith) q
+      go (Ok n) q ih =
           let w = ends zs (b ∷ s) q refl in
           let l : length (drop n (b ∷ s)) ≡ suc (length s) - n = length-drop n (b ∷ s) in
           step at (b ∷ s) n q (ih (at + n) (drop n (b ∷ s)) (omega (arith, l, w.1)))
@@ -79,7 +78,7 @@ Worth at s (guilty place a) = (place < at + length s) × (a ≡ Done → ⊥)
 number_small : (s : List ℕ) → Bytes s → pair_at s 4 < 65536
 number_small s b = number_below s 4 2 2 (pair_at s 4) (omega arith) (big_endian_less_law (field s 4 2) (bytes_take 2 (drop 4 s) (bytes_drop 4 s b)))
 
-worth_step : (zs : List ℕ) (at : ℕ) (s : List ℕ) (n : ℕ) → Whole n ≡ envelope zs s → (r : Rows) → Worth (at + n) (drop n s) r → Worth at s (before (row_of at (record_of s)) r)
+worth_step : (zs : List ℕ) (at : ℕ) (s : List ℕ) (n : ℕ) → Ok n ≡ envelope zs s → (r : Rows) → Worth (at + n) (drop n s) r → Worth at s (before (row_of at (record_of s)) r)
 unfolding before record_of
 worth_step zs at s n q (all rows) c =
     let w = ends zs s q refl in

@@ -1,4 +1,3 @@
-pub mod Lists
 pub mod Envelopes
 pub mod Walks
 pub mod Tables

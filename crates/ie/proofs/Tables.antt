@@ -1,103 +1,106 @@
 -- The rows laid into the table, one store after another.
-use Prim.Native.Nat.{ℕ, suc, ◌+◌, ◌≤◌, ◌<◌}
+use Prim.Native.Nat.{ℕ, suc, ◌+◌, ◌-◌, ◌≤◌, ◌<◌}
 use mathlib.Core.Path.{◌≡◌, refl, ap, sym, ◌∙◌}
 use mathlib.Core.List.{List, [], ◌∷◌, ◌++◌}
-use mathlib.Core.Bool.{true}
+use mathlib.Core.Bool.{Bool, true, false}
 use native.Mathlib.Omega.{arith}
 use native.Mathlib.Numerals.{add-one}
-use lib.ListN.{length, take, drop, set, length-set, take-append-drop}
-use lib.Seq.{take-suc-set, drop-set-lt, append_snoc}
-use borrow.Author.Tests.{leb-true}
+use lib.Dec.{leb}
+use lib.ListN.{length, take, drop, set, length-set, length-drop}
+use lib.Seq.{take-suc-set, take_all, append_snoc}
+use borrow.Author.Tests.{leb-true, leb-false}
+use Rattle.std.specs.Prelude.{Result, Ok, Err}
+use Rattle.std.proofs.lemmas.List.{append-nil}
+use Rattle.answer.specs.declared.Answer.{Answer}
 use Rattle.ie.proofs.Envelopes.{record_ends}
 use Rattle.ie.proofs.Walks.{past, stopped, stepped, inside}
-use Rattle.ie.specs.Ie.{Rows, all, guilty, before, record_of, row_of, envelope, ies, filled}
-use Rattle.ie.specs.Steps.{IsWhole, fits}
+use Rattle.ie.specs.Ie.{Rows, all, guilty, before, record_of, row_of, envelope, ies}
+use Rattle.ie.specs.Steps.{IsWhole, counted, HasRows}
 use Rattle.ie.specs.declared.Ie.{Ie}
-use Rattle.ie.specs.declared.Envelope.{Envelope}
-use Rattle.ie.specs.declared.Envelope.TheVariants.{Whole, Refused}
 
 abbrev pub Table : Type 0
 Table = List (List ℕ)
 
--- rows laid over a table from a row on
-abbrev pub laid : Table → ℕ → Table → Table
-laid table i rows = take i table ++ (rows ++ drop (i + length rows) table)
+-- what the count says of the rows
+pub is_all : (r : Rows) {n : ℕ} → counted 0 r ≡ Ok n → (rows : Table) × (r ≡ all rows) × (length rows ≡ n)
+unfolding counted
+is_all (all rows) {n} q = (rows, refl, (let z : 0 + length rows ≡ n = cc in omega arith))
+is_all (guilty place a) q = let y : ◌≡◌ {A = ℕ} 0 1 = cc in absurd (omega arith)
 
-laid_none : (table : Table) (i : ℕ) → laid table i [] ≡ table
-laid_none table i = let z : i + 0 ≡ i = omega arith in rw z (take-append-drop i table)
-
--- one row stored, the others behind it
-laid_set : (table : Table) (i : ℕ) (row : List ℕ) (rows : Table) → i < length table → laid (set table i row) (i + 1) rows ≡ laid table i (row ∷ rows)
-laid_set table i row rows h =
-    let a : take (i + 1) (set table i row) ≡ take i table ++ (row ∷ []) = rw (add-one i) (take-suc-set table i row h) in
-    let z : i + 1 + length rows ≡ i + suc (length rows) = omega arith in
-    let b : drop (i + 1 + length rows) (set table i row) ≡ drop (i + suc (length rows)) table = drop-set-lt (i + 1 + length rows) table i row (omega arith) ∙ ap (λ (n : ℕ). drop n table) z in
-    rw (a, b) (append_snoc (take i table) row (rows ++ drop (i + suc (length rows)) table))
-
--- the rows that are left, and room for them
-pub record Left (zs s : List ℕ) (at : ℕ) (table : Table) (i : ℕ) (last : Table) : Type 0 where
+-- the rows that are left, behind those that are there
+pub record Left (zs s : List ℕ) (at : ℕ) (table : Table) (i : ℕ) : Type 0 where
   pub rows : Table
   pub are : ies zs at (drop at s) ≡ all rows
-  pub room : i + length rows ≤ length table
-  pub done : laid table i rows ≡ last
+  pub room : i + length rows ≡ length table
+  pub done : ies zs 0 s ≡ all (take i table ++ rows)
 
-starts_by : (r : Rows) (table : Table) → fits r (length table) ≡ true → (rows : Table) × (r ≡ all rows) × (length rows ≤ length table) × (rows ++ drop (length rows) table ≡ filled table r)
-unfolding fits filled
-starts_by (all rows) table h = (rows, refl, leb-true _ _ h, sym (rw h))
-starts_by (guilty place a) table h = let y : ◌≡◌ {A = ℕ} 0 1 = cc in absurd (omega arith)
-
-pub starts : (zs s : List ℕ) (table : Table) → fits (ies zs 0 s) (length table) ≡ true → Left zs s 0 table 0 (filled table (ies zs 0 s))
+pub starts : (zs s : List ℕ) (table : Table) → HasRows zs s (length table) → Left zs s 0 table 0
 starts zs s table h =
-    let w = starts_by (ies zs 0 s) table h in
-    let z : 0 + length w.0 ≡ length w.0 = omega arith in
-    record { rows = w.0; are = w.1; room = omega (arith, w.2); done = rw z w.3 }
+    let w = is_all (ies zs 0 s) h in
+    record { rows = w.0; are = w.1; room = omega (arith, w.2); done = w.1 }
 
 split : (row : List ℕ) (r : Rows) (rows : Table) → before row r ≡ all rows → (rest : Table) × (r ≡ all rest) × (rows ≡ row ∷ rest)
 unfolding before
 split row (all rest) rows q = (rest, refl, cc)
 split row (guilty place a) rows q = let y : ◌≡◌ {A = ℕ} 0 1 = cc in absurd (omega arith)
 
-module _ (zs s : List ℕ) (at : ℕ) (table : Table) (i : ℕ) {last : Table} (left : Left zs s at table i last) where
-  pub fill_end : length s ≤ at → table ≡ last
-  fill_end h =
-      let z : left.rows ≡ [] = cc (past zs s at h, left.are) in
-      sym (laid_none table i) ∙ ap (laid table i) (sym z) ∙ left.done
+module _ (zs s : List ℕ) (at : ℕ) (table : Table) (i : ℕ) (left : Left zs s at table i) where
+  none_left : (rows : Table) → length rows ≡ 0 → take (length table) table ++ rows ≡ table
+  none_left [] h = append-nil _ ∙ take_all (length table) table (omega arith)
+  none_left (row ∷ rows) h = absurd (omega (arith, h))
 
-  module _ (lt : at < length s) where
+  pub fill_end : i ≡ length table → ies zs 0 s ≡ all table
+  fill_end h = rw h at left.done ∙ ap all (none_left left.rows (omega (arith, h, left.room)))
+
+  module _ (more : i < length table) where
+    lt : at < length s
+    lt = go (leb (length s) at) refl
+      where
+        go : (b : Bool) → leb (length s) at ≡ b → at < length s
+        go true e =
+            let z : left.rows ≡ [] = cc (past zs s at (leb-true _ _ e), left.are) in
+            let n : length left.rows ≡ 0 = ap length z in
+            absurd (omega (arith, n, left.room, more))
+        go false e = leb-false _ _ e
+
     -- a good body has a whole IE here
-    here : (end : ℕ) × (Whole end ≡ envelope zs (drop at s))
+    here : (end : ℕ) × (Ok end ≡ envelope zs (drop at s))
     here = go (envelope zs (drop at s)) refl
       where
-        go : (o : Envelope) → o ≡ envelope zs (drop at s) → (end : ℕ) × (Whole end ≡ envelope zs (drop at s))
-        go (Whole end) e = (end, e)
-        go (Refused a) e = let x = stopped zs s at lt e refl in let l = left.are in let y : ◌≡◌ {A = ℕ} 0 1 = cc in absurd (omega arith)
+        go : (o : Result ℕ Answer) → o ≡ envelope zs (drop at s) → (end : ℕ) × (Ok end ≡ envelope zs (drop at s))
+        go (Ok end) e = (end, e)
+        go (Err a) e = let x = stopped zs s at lt e refl in let l = left.are in let y : ◌≡◌ {A = ℕ} 0 1 = cc in absurd (omega arith)
 
-    pub is_whole : IsWhole (drop at s)
-    is_whole = (inside zs s at lt here.1 refl).0
+    -- the code lends all that is left
+    lent : take (length s - at) (drop at s) ≡ drop at s
+    lent = take_all (length s - at) (drop at s) (omega (arith, length-drop at s))
+
+    pub is_whole : IsWhole (take (length s - at) (drop at s))
+    is_whole = rw lent (inside zs s at lt here.1 refl).0
 
     parts : (rest : Table) × (ies zs (at + here.0) (drop (at + here.0) s) ≡ all rest) × (left.rows ≡ row_of at (record_of (drop at s)) ∷ rest)
     parts = split _ _ left.rows (sym (stepped zs s at lt here.1 refl) ∙ left.are)
 
-    counts : length left.rows ≡ suc (length parts.0)
-    counts = ap length parts.2
+    module _ {ie : Ie} (e : ie ≡ record_of (take (length s - at) (drop at s))) where
+      is_here : ie ≡ record_of (drop at s)
+      is_here = e ∙ ap record_of lent
 
-    pub has_room : i < length table
-    has_room = omega (arith, counts, left.room)
-
-    module _ {ie : Ie} (e : ie ≡ record_of (drop at s)) where
       ends_here : ie.place + ie.len ≡ here.0
-      ends_here = ap (λ (x : Ie). x.place + x.len) e ∙ record_ends (drop at s) is_whole ∙ (inside zs s at lt here.1 refl).1
+      ends_here = let w = inside zs s at lt here.1 refl in ap (λ (x : Ie). x.place + x.len) is_here ∙ record_ends (drop at s) w.0 ∙ w.1
 
-      pub fill_bounds : (4 ≤ ie.place + ie.len) × (at + (ie.place + ie.len) ≤ length s)
-      fill_bounds = let w = inside zs s at lt here.1 refl in (omega (arith, ends_here, w.1), omega (arith, ends_here, w.2))
+      pub fill_bounds : at + (ie.place + ie.len) ≤ length s
+      fill_bounds = let w = inside zs s at lt here.1 refl in omega (arith, ends_here, w.2)
 
-      pub fill_step : {row : List ℕ} → row ≡ row_of at ie → Left zs s (at + (ie.place + ie.len)) (set table i row) (i + 1) last
+      pub fill_step : {row : List ℕ} → row ≡ row_of at ie → Left zs s (at + (ie.place + ie.len)) (set table i row) (i + 1)
       fill_step {row} q =
-          let r : row ≡ row_of at (record_of (drop at s)) = q ∙ ap (row_of at) e in
+          let r : row ≡ row_of at (record_of (drop at s)) = q ∙ ap (row_of at) is_here in
           let z : at + here.0 ≡ at + (ie.place + ie.len) = ap (λ (n : ℕ). at + n) (sym ends_here) in
+          let n : length left.rows ≡ suc (length parts.0) = ap length parts.2 in
+          let t : take (i + 1) (set table i row) ≡ take i table ++ (row ∷ []) = rw (add-one i) (take-suc-set table i row more) in
+          let b : take (i + 1) (set table i row) ++ parts.0 ≡ take i table ++ left.rows = ap (λ (x : Table). x ++ parts.0) t ∙ append_snoc (take i table) row parts.0 ∙ ap (λ (x : Table). take i table ++ x) (ap (λ (x : List ℕ). x ∷ parts.0) r ∙ sym parts.2) in
           record {
             rows = parts.0;
             are = rw z at parts.1;
-            room = omega (arith, counts, left.room, length-set table i row);
-            done = laid_set table i row parts.0 has_room ∙ ap (λ (x : List ℕ). laid table i (x ∷ parts.0)) r ∙ ap (laid table i) (sym parts.2) ∙ left.done;
+            room = omega (arith, n, left.room, length-set table i row);
+            done = left.done ∙ ap all (sym b);
           }

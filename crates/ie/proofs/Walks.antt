@@ -13,10 +13,8 @@ use Rattle.octets.specs.Octets.{pick}
 use Rattle.ie.proofs.Envelopes.{ends}
 use Rattle.ie.specs.Ie.{length_of, Rows, all, guilty, before, on_envelope, record_of, row_of, envelope, walk, ies}
 use Rattle.ie.specs.Steps.{IsWhole, counted}
-use Rattle.ie.specs.declared.Envelope.{Envelope}
-use Rattle.ie.specs.declared.Envelope.TheVariants.{Whole, Refused}
-use Rattle.ie.specs.declared.Counted.{Counted}
-use Rattle.ie.specs.declared.Counted.TheVariants.{All, Guilty}
+use Rattle.std.specs.Prelude.{Result, Ok, Err, MatchResult, IsErrAnd, is_ok}
+use Rattle.ie.specs.declared.Guilty.{Guilty}
 
 -- turns enough are as good as more
 enough : (m n : ℕ) (zs : List ℕ) (at : ℕ) (s : List ℕ) → length s ≤ m → length s ≤ n → walk m zs at s ≡ walk n zs at s
@@ -26,11 +24,11 @@ enough zero (suc n) zs at s h k = rw (eq-eqb (length s) 0 (omega arith))
 enough (suc m) zero zs at s h k = rw (eq-eqb (length s) 0 (omega arith))
 enough (suc m) (suc n) zs at s h k = go (eqb (length s) 0) (envelope zs s) refl (enough m n zs)
   where
-    go : (b : Bool) (o : Envelope) → o ≡ envelope zs s → ((at : ℕ) (s : List ℕ) → length s ≤ m → length s ≤ n → walk m zs at s ≡ walk n zs at s)
+    go : (b : Bool) (o : Result ℕ Answer) → o ≡ envelope zs s → ((at : ℕ) (s : List ℕ) → length s ≤ m → length s ≤ n → walk m zs at s ≡ walk n zs at s)
         → pick b (all []) (on_envelope at s o (λ end. walk m zs (at + end) (drop end s))) ≡ pick b (all []) (on_envelope at s o (λ end. walk n zs (at + end) (drop end s)))
     go true o q ih = refl
-    go false (Refused a) q ih = refl
-    go false (Whole end) q ih =
+    go false (Err a) q ih = refl
+    go false (Ok end) q ih =
         let w = ends zs s q refl in
         ap (before _) (ih (at + end) (drop end s) (omega (arith, length-drop end s, w.1, w.2)) (omega (arith, length-drop end s, w.1, w.2)))
 
@@ -40,10 +38,10 @@ unfolding ies walk
 turn zs at [] h = absurd (omega arith)
 turn zs at (b ∷ s) h = rw (ne_eqb (suc (length s)) 0 (λ z. omega arith)) (go (envelope zs (b ∷ s)) refl)
   where
-    go : (o : Envelope) → o ≡ envelope zs (b ∷ s)
+    go : (o : Result ℕ Answer) → o ≡ envelope zs (b ∷ s)
         → on_envelope at (b ∷ s) o (λ end. walk (length s) zs (at + end) (drop end (b ∷ s))) ≡ on_envelope at (b ∷ s) o (λ end. walk (length (drop end (b ∷ s))) zs (at + end) (drop end (b ∷ s)))
-    go (Refused a) q = refl
-    go (Whole end) q =
+    go (Err a) q = refl
+    go (Ok end) q =
         let w = ends zs (b ∷ s) q refl in
         let l : length (drop end (b ∷ s)) ≡ suc (length s) - end = length-drop end (b ∷ s) in
         ap (before _) (enough (length s) (length (drop end (b ∷ s))) zs (at + end) (drop end (b ∷ s)) (omega (arith, l, w.1, w.2)) (omega arith))
@@ -58,11 +56,11 @@ module _ (zs s : List ℕ) (at : ℕ) where
   past h = none_left zs at (drop at s) (omega (arith, length-drop at s))
 
   -- the IE at a place of the body
-  module _ (lt : at < length s) {o : Envelope} (e : o ≡ envelope zs (drop at s)) where
-    pub stopped : {a : Answer} → o ≡ Refused a → ies zs at (drop at s) ≡ guilty at a
+  module _ (lt : at < length s) {o : Result ℕ Answer} (e : o ≡ envelope zs (drop at s)) where
+    pub stopped : {a : Answer} → o ≡ Err a → ies zs at (drop at s) ≡ guilty at a
     stopped q = let z = sym e ∙ q in turn zs at (drop at s) (omega (arith, length-drop at s)) ∙ rw z
 
-    module _ {end : ℕ} (q : o ≡ Whole end) where
+    module _ {end : ℕ} (q : o ≡ Ok end) where
       pub inside : IsWhole (drop at s) × (4 + length_of (drop at s) ≡ end) × (at + end ≤ length s)
       inside = let w = ends zs (drop at s) e q in (w.0, w.1, omega (arith, length-drop at s, w.2))
 
@@ -71,26 +69,35 @@ module _ (zs s : List ℕ) (at : ℕ) where
 
 -- ---- the count
 
+-- where an IE ends, or its refusal, by the count's view of it
+pub mapped_ok : (o : Result ℕ Answer) (F : Answer → Guilty → Type 0) {r : Result ℕ Guilty} {end : ℕ} → MatchResult o (λ n. r ≡ Ok n) (λ a. IsErrAnd r (F a)) → r ≡ Ok end → o ≡ Ok end
+mapped_ok (Ok n) F k e = cc
+mapped_ok (Err a) F k e = absurd (rw e at k)
+
+pub mapped_err : (o : Result ℕ Answer) {r : Result ℕ Guilty} {g : Guilty} → is_ok r ≡ is_ok o → r ≡ Err g → (a : Answer) × (o ≡ Err a)
+mapped_err (Ok n) v e = let z : false ≡ true = rw e at v in let y : ◌≡◌ {A = ℕ} 0 1 = cc in absurd (omega arith)
+mapped_err (Err a) v e = (a, refl)
+
 counted_before : (n : ℕ) (row : List ℕ) (r : Rows) → counted (n + 1) r ≡ counted n (before row r)
 unfolding counted before
-counted_before n row (all rows) = ap All (omega arith)
+counted_before n row (all rows) = ap Ok (omega arith)
 counted_before n row (guilty place a) = refl
 
-module _ (zs s : List ℕ) (at n : ℕ) {total : Counted} (inv : counted n (ies zs at (drop at s)) ≡ total) where
-  pub count_end : length s ≤ at → All n ≡ total
+module _ (zs s : List ℕ) (at n : ℕ) {total : Result ℕ Guilty} (inv : counted n (ies zs at (drop at s)) ≡ total) where
+  pub count_end : length s ≤ at → Ok n ≡ total
   unfolding counted
-  count_end h = let z : n + 0 ≡ n = omega arith in ap All (sym z) ∙ (rw (past zs s at h) at inv)
+  count_end h = let z : n + 0 ≡ n = omega arith in ap Ok (sym z) ∙ (rw (past zs s at h) at inv)
 
   -- the code lends all that is left
-  module _ (lt : at < length s) {o : Envelope} (lent : o ≡ envelope zs (take (length s - at) (drop at s))) where
+  module _ (lt : at < length s) {o : Result ℕ Answer} (lent : o ≡ envelope zs (take (length s - at) (drop at s))) where
     e : o ≡ envelope zs (drop at s)
     e = lent ∙ ap (envelope zs) (take_all (length s - at) (drop at s) (omega (arith, length-drop at s)))
 
-    pub count_stop : {a : Answer} → o ≡ Refused a → Guilty at a ≡ total
+    pub count_stop : {a : Answer} → o ≡ Err a → Err (record { place = at; answer = a }) ≡ total
     unfolding counted
     count_stop q = rw (stopped zs s at lt e q) at inv
 
-    module _ {end : ℕ} (q : o ≡ Whole end) where
+    module _ {end : ℕ} (q : o ≡ Ok end) where
       pub passed : (4 ≤ end) × (at + end ≤ length s)
       passed = let w = inside zs s at lt e q in (omega (arith, w.1), w.2)
 

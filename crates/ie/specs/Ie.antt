@@ -1,13 +1,12 @@
 -- The IEs of a message body, as request K3 has them.
-use Rattle.std.specs.Prelude.{ℕ, zero, suc, ◌+◌, ◌-◌, Bool, true, false, not, ◌||◌, List, [], ◌∷◌, ◌++◌, leb, eqb, length, drop}
+use Rattle.std.specs.Prelude.{ℕ, zero, suc, ◌+◌, ◌-◌, Bool, not, ◌||◌, List, [], ◌∷◌, ◌++◌, leb, eqb, length, drop, Option, Some, None, Result, Ok, Err}
+use Rattle.std.specs.List.{list_any}
 use Rattle.answer.specs.declared.Answer.{Answer}
 use Rattle.answer.specs.declared.Answer.TheVariants.{Done, Short, InputTooLong, NoRoom, ZeroLength}
 use Rattle.octets.specs.Octets.{pick, bit, if_set, field, big_endian}
 use Rattle.ie.specs.declared.Ie.{Ie}
 use Rattle.ie.specs.declared.IeRead.{IeRead}
 use Rattle.ie.specs.declared.IesRead.{IesRead}
-use Rattle.ie.specs.declared.Envelope.{Envelope}
-use Rattle.ie.specs.declared.Envelope.TheVariants.{Whole, Refused}
 
 -- ---- one IE
 
@@ -31,18 +30,17 @@ abbrev pub extra : ℕ → ℕ
 extra t = if_set (is_vendor t) 2
 
 -- whether a list has a type
-unfoldable pub listed : ℕ → List ℕ → Bool
-listed t [] = false
-listed t (z ∷ zs) = pick (eqb z t) true (listed t zs)
+abbrev pub listed : ℕ → List ℕ → Bool
+listed t zs = list_any (λ z. eqb z t) zs
 
 -- a test, and the answer where it fails
 infixr 20 ◌or◌then◌
-abbrev pub ◌or◌then◌ : Bool → Answer → Envelope → Envelope
-good or a then e = pick good e (Refused a)
+abbrev pub ◌or◌then◌ : Bool → Answer → Result ℕ Answer → Result ℕ Answer
+good or a then e = pick good e (Err a)
 
 -- Where the IE at the front of some bytes ends, or why it is refused: the header, a length of zero where the type isn't listed, a vendor's
 -- header, a vendor's length (the one whose two lengths don't count from the IE's start), the payload.
-unfoldable pub envelope : List ℕ → List ℕ → Envelope
+unfoldable pub envelope : List ℕ → List ℕ → Result ℕ Answer
 envelope zs s =
     let n = length s in
     let t = type_of s in
@@ -52,21 +50,21 @@ envelope zs s =
     leb (4 + extra t) n or Short 0 (4 + extra t) n then
     leb (extra t) m or Short 0 (extra t) m then
     leb (4 + m) n or Short 0 (4 + m) n then
-    Whole (4 + m)
+    Ok (4 + m)
 
--- the record of an IE at the front; 65,536 where it has no enterprise number
+-- the record of an IE at the front; a vendor's alone has an enterprise number
 unfoldable pub record_of : List ℕ → Ie
 record_of s =
     let t = type_of s in
-    record { raw_type = t; enterprise_id = pick (is_vendor t) (pair_at s 4) 65536; place = 4 + extra t; len = length_of s - extra t }
+    record { raw_type = t; enterprise_id = pick (is_vendor t) (Some (pair_at s 4)) None; place = 4 + extra t; len = length_of s - extra t }
 
 -- a refused read: the empty record and used 0
 unfoldable pub refused : Answer → IeRead
-refused a = record { answer = a; used = 0; «record» = record { raw_type = 0; enterprise_id = 65536; place = 0; len = 0 } }
+refused a = record { answer = a; used = 0; «record» = record { raw_type = 0; enterprise_id = None; place = 0; len = 0 } }
 
-unfoldable pub found : List ℕ → Envelope → IeRead
-found s (Whole end) = record { answer = Done; used = end; «record» = record_of s }
-found s (Refused a) = refused a
+unfoldable pub found : List ℕ → Result ℕ Answer → IeRead
+found s (Ok end) = record { answer = Done; used = end; «record» = record_of s }
+found s (Err a) = refused a
 
 -- what reading the IE at the front gives
 unfoldable pub read : List ℕ → List ℕ → IeRead
@@ -74,9 +72,14 @@ read zs s = pick (leb (length s) 65535) (found s (envelope zs s)) (refused (Inpu
 
 -- ---- all IEs
 
+-- an enterprise number in a row; 65,536 where there is none
+abbrev pub shown : Option ℕ → ℕ
+shown (Some n) = n
+shown None = 65536
+
 -- the row of an IE at a place: raw type, enterprise number, place and length of payload
 abbrev pub row_of : ℕ → Ie → List ℕ
-row_of at ie = ie.raw_type ∷ ie.enterprise_id ∷ (at + ie.place) ∷ ie.len ∷ []
+row_of at ie = ie.raw_type ∷ shown ie.enterprise_id ∷ (at + ie.place) ∷ ie.len ∷ []
 
 -- the rows, or the place of the guilty IE with its refusal
 pub data Rows : Type 0 where
@@ -89,9 +92,9 @@ before row (all rows) = all (row ∷ rows)
 before row (guilty place a) = guilty place a
 
 -- the IE at a place, and what stands behind its end
-abbrev pub on_envelope : ℕ → List ℕ → Envelope → (ℕ → Rows) → Rows
-on_envelope at s (Whole end) behind = before (row_of at (record_of s)) (behind end)
-on_envelope at s (Refused a) behind = guilty at a
+abbrev pub on_envelope : ℕ → List ℕ → Result ℕ Answer → (ℕ → Rows) → Rows
+on_envelope at s (Ok end) behind = before (row_of at (record_of s)) (behind end)
+on_envelope at s (Err a) behind = guilty at a
 
 -- one IE after another from the front, at most so many
 unfoldable pub walk : ℕ → List ℕ → ℕ → List ℕ → Rows

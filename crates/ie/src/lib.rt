@@ -1,9 +1,9 @@
 // The IEs of a message body: the envelope of each, and all of them in a lent table.
 #![tactic(auto)]
 
-ghost use Rattle.std.specs.Prelude.{◌≡◌, true, not, ◌||◌, ◌+◌, ◌≤◌, ◌<◌, eqb, length, drop};
-ghost use Rattle.ie.specs.Ie.{pair_at, is_vendor, listed, record_of, refused, read, envelope, row_of, ies, ours, refused_at, read_all, filled, tabled};
-ghost use Rattle.ie.specs.Steps.{IsWhole, short, payload_test, vendor_tests, counted, fits};
+ghost use Rattle.std.specs.Prelude.{◌≡◌, ℕ, List, not, ◌||◌, ◌+◌, ◌≤◌, ◌<◌, eqb, length, MatchResult};
+ghost use Rattle.ie.specs.Ie.{pair_at, is_vendor, listed, record_of, refused, read, envelope, row_of, ies, ours, refused_at, read_all, all, tabled};
+ghost use Rattle.ie.specs.Steps.{IsWhole, counted, HasRows};
 
 use answer::Answer;
 
@@ -11,7 +11,7 @@ use answer::Answer;
 #[derive(Clone, Copy)]
 pub struct Ie {
     pub raw_type: u16,
-    pub enterprise_id: u32,
+    pub enterprise_id: Option<u16>,
     pub place: usize,
     pub len: usize,
 }
@@ -35,18 +35,11 @@ pub struct IesRead {
     pub place: usize,
 }
 
-// Where the IE at the front of a slice ends, or why it is refused.
+// The guilty IE of a body: where it begins, and why it is refused.
 #[derive(Clone, Copy)]
-pub enum Envelope {
-    Whole { end: usize },
-    Refused { answer: Answer },
-}
-
-// How many IEs a body has, or which one is guilty.
-#[derive(Clone, Copy)]
-pub enum Counted {
-    All { rows: usize },
-    Guilty { place: usize, answer: Answer },
+struct Guilty {
+    place: usize,
+    answer: Answer,
 }
 
 // A refused read of one IE.
@@ -58,7 +51,7 @@ fn refused(answer: Answer) -> IeRead
         used: 0,
         record: Ie {
             raw_type: 0,
-            enterprise_id: Ie::NO_ENTERPRISE,
+            enterprise_id: None,
             place: 0,
             len: 0,
         },
@@ -76,26 +69,26 @@ fn refused_at(place: usize, answer: Answer) -> IesRead
     }
 }
 
-// An IE that ends too early.
-fn short(expected: usize, actual: usize) -> Envelope
-    ensures { result ≡ short expected actual }
+// So many bytes are there, or the IE ends too early.
+fn at_least(expected: usize, actual: usize) -> Result<(), Answer>
+    ensures { MatchResult result (λ _. expected ≤ actual) (λ e. (actual < expected) × (e ≡ Answer.Short 0 expected actual)) }
 {
-    Envelope::Refused {
-        answer: Answer::Short {
+    if actual < expected {
+        return Err(Answer::Short {
             field: 0,
             expected,
             actual,
-        },
+        });
     }
+    Ok(())
 }
 
 // A two-byte number at a place.
 fn pair(s: &[u8], at: usize) -> u16
     requires { at + 2 ≤ length s.now }
-    ensures value { result ≡ pair_at s.now at }
-    ensures upper_bound { result < 65536 }
+    ensures { result ≡ pair_at s.now at }
 {
-    octets::number(&s[at..at + 2]) as u16
+    u16::from_be_bytes([s[at], s[at + 1]])
 }
 
 // Whether a type is a vendor's: its top bit is set.
@@ -105,155 +98,103 @@ fn is_vendor(raw_type: u16) -> bool
     raw_type / 32768 % 2 == 1
 }
 
-// Whether a type is in a list.
-fn is_listed(types: &[u16], raw_type: u16) -> bool
-    ensures { result ≡ listed raw_type types.now }
-{
-    let mut i = 0;
-    while i < types.len() {
-        if types[i] == raw_type {
-            return true;
-        }
-        i += 1;
-    }
-    false
-}
-
 // Whether an IE of this type may have this length.
 fn may_have(raw_type: u16, length: usize, zero_types: &[u16]) -> bool
     ensures { result ≡ not (eqb length 0) || listed raw_type zero_types.now }
 {
-    if length != 0 {
-        return true;
-    }
-    is_listed(zero_types, raw_type)
+    length != 0 || zero_types.contains(&raw_type)
 }
 
-// The last test of so many bytes with an IE at their front: its payload is there.
-fn payload_end(size: usize, length: usize) -> Envelope
-    requires { length < 65536 }
-    ensures { result ≡ payload_test size length }
-{
-    let end = 4 + length;
-    if size < end {
-        return short(end, size);
-    }
-    Envelope::Whole { end }
-}
-
-// The tests of a vendor's IE before that one: the enterprise number is there, and the length counts it.
-fn vendor_end(size: usize, length: usize) -> Envelope
-    requires { length < 65536 }
-    ensures { result ≡ vendor_tests size length }
-{
-    if size < 6 {
-        return short(6, size);
-    }
-    // The two lengths that don't count from the IE's start: the Rust says them so.
-    if length < 2 {
-        return short(2, length);
-    }
-    payload_end(size, length)
-}
-
-// All tests of the IE at the front of a slice, in their order.
-fn end_of(s: &[u8], zero_types: &[u16]) -> Envelope
+// Where the IE at the front of a slice ends, or why it is refused: all tests, in their order.
+fn end_of(s: &[u8], zero_types: &[u16]) -> Result<usize, Answer>
     ensures { result ≡ envelope zero_types.now s.now }
 {
     let n = s.len();
-    if n < 4 {
-        return short(4, n);
-    }
+    at_least(4, n)?;
     let raw_type = pair(s, 0);
     let length = pair(s, 2) as usize;
     if !may_have(raw_type, length, zero_types) {
-        return Envelope::Refused {
-            answer: Answer::ZeroLength,
-        };
+        return Err(Answer::ZeroLength);
     }
-    if is_vendor(raw_type) {
-        return vendor_end(n, length);
-    }
-    payload_end(n, length)
+    let extra = octets::if_set(is_vendor(raw_type), 2);
+    at_least(4 + extra, n)?;
+    // The two lengths that don't count from the IE's start: the Rust says them so.
+    at_least(extra, length)?;
+    at_least(4 + length, n)?;
+    Ok(4 + length)
 }
 
 // The record of an IE that passed them.
-fn record_at(s: &[u8], at: usize) -> Ie
-    requires { IsWhole (drop at s.now) }
-    ensures { result ≡ record_of (drop at s.now) }
+fn record_of(s: &[u8]) -> Ie
+    requires { IsWhole s.now }
+    ensures { result ≡ record_of s.now }
 {
-    let raw_type = pair(s, at);
-    let length = pair(s, at + 2) as usize;
+    let raw_type = pair(s, 0);
+    let length = pair(s, 2) as usize;
     if is_vendor(raw_type) {
         return Ie {
             raw_type,
-            enterprise_id: pair(s, at + 4) as u32,
+            enterprise_id: Some(pair(s, 4)),
             place: 6,
             len: length - 2,
         };
     }
     Ie {
         raw_type,
-        enterprise_id: Ie::NO_ENTERPRISE,
+        enterprise_id: None,
         place: 4,
         len: length,
     }
 }
 
 // The first way along a body: how many IEs, or which one is guilty.
-fn count(body: &[u8], zero_types: &[u16]) -> Counted
+fn count(body: &[u8], zero_types: &[u16]) -> Result<usize, Guilty>
     ensures { result ≡ counted 0 (ies zero_types.now 0 body.now) }
 {
     let mut place = 0;
     let mut rows = 0;
     while place < body.len() {
-        match end_of(&body[place..], zero_types) {
-            Envelope::Whole { end } => {
-                rows += 1;
-                place += end;
-            }
-            Envelope::Refused { answer } => return Counted::Guilty { place, answer },
-        }
+        let end = end_of(&body[place..], zero_types).map_err(|answer| Guilty { place, answer })?;
+        place += end;
+        rows += 1;
     }
-    Counted::All { rows }
+    Ok(rows)
 }
 
-// The row of an IE at a place.
-fn row_of(at: usize, ie: Ie) -> Row
-    requires place_bound { at + ie.place < 4294967296 }
-    requires len_bound { ie.len < 4294967296 }
-    ensures { result ≡ row_of at ie }
-{
-    [
-        ie.raw_type as u32,
-        ie.enterprise_id,
-        (at + ie.place) as u32,
-        ie.len as u32,
-    ]
-}
-
-// The second way: the rows of a good body into a table with room. It is the list of types that says which bodies are good.
-fn fill(body: &[u8], zero_types: &[u16], table: &mut [Row])
+// The second way: the rows of a body that is good by some list of types, as many as are lent.
+fn fill(body: &[u8], rows: &mut [Row])
     requires body_len_bound { length body.now ≤ 65535 }
-    requires table_value { fits (ies zero_types.now 0 body.now) (length table.old) ≡ true }
-    ensures { table.new ≡ filled table.old (ies zero_types.now 0 body.now) }
+    requires good { (zs : List ℕ) × HasRows zs body.now (length rows.old) }
+    ensures { (zs : List ℕ) → HasRows zs body.now (length rows.old) → ies zs 0 body.now ≡ all rows.new }
 {
     let mut at = 0;
-    let mut row = 0;
-    while at < body.len() {
-        let ie = record_at(body, at);
-        table[row] = row_of(at, ie);
-        row += 1;
+    for row in rows.iter_mut() {
+        let ie = record_of(&body[at..]);
+        *row = ie.row(at);
         at += ie.place + ie.len;
     }
 }
 
 impl Ie {
-    // In place of an enterprise number where there is none.
+    // In a row, in place of an enterprise number where there is none.
     pub const NO_ENTERPRISE: u32 = 65536;
 
     // The types that may have length zero in the published Rust.
     pub const ZERO_TYPES: [u16; 3] = [22, 41, 159];
+
+    // The row of an IE at a place.
+    fn row(self, at: usize) -> Row
+        requires place_bound { at + self.place < 4294967296 }
+        requires len_bound { self.len < 4294967296 }
+        ensures { result ≡ row_of at self }
+    {
+        [
+            self.raw_type as u32,
+            self.enterprise_id.map_or(Ie::NO_ENTERPRISE, u32::from),
+            (at + self.place) as u32,
+            self.len as u32,
+        ]
+    }
 
     // The IE at the front of a slice.
     pub fn unmarshal(s: &[u8], zero_types: &[u16]) -> IeRead
@@ -264,11 +205,11 @@ impl Ie {
             return refused(Answer::InputTooLong { length: n });
         }
         match end_of(s, zero_types) {
-            Envelope::Refused { answer } => refused(answer),
-            Envelope::Whole { end } => IeRead {
+            Err(answer) => refused(answer),
+            Ok(end) => IeRead {
                 answer: Answer::Done,
                 used: end,
-                record: record_at(s, 0),
+                record: record_of(s),
             },
         }
     }
@@ -283,12 +224,12 @@ impl Ie {
             return refused_at(0, Answer::InputTooLong { length });
         }
         match count(body, zero_types) {
-            Counted::Guilty { place, answer } => refused_at(place, answer),
-            Counted::All { rows } => {
+            Err(Guilty { place, answer }) => refused_at(place, answer),
+            Ok(rows) => {
                 if table.len() < rows {
                     return refused_at(0, Answer::NoRoom { needed: rows });
                 }
-                fill(body, zero_types, table);
+                fill(body, &mut table[..rows]);
                 IesRead {
                     answer: Answer::Done,
                     rows,

@@ -1,40 +1,41 @@
 -- `ie::count` meets its contract. The invariant: the IEs passed and those from `place` on come to the whole.
 use native.Mathlib.Omega.{arith}
-use mathlib.Core.Path.{refl}
-use Rattle.ie.proofs.Walks.{passed, count_end, count_stop, count_step}
+use Rattle.ie.proofs.Walks.{passed, count_end, count_stop, count_step, mapped_ok, mapped_err}
+use borrow.Author.Rules.{rules}
+use Rattle.std.proofs.lemmas.Result.{err_from_is_err_and, MatchResult-at_err}
+use mathlib.Core.Path.{◌≡◌}
 use Rattle.ie.proofs.count.Goals as goal
 
-pub loop-place-init : goal.loop-place-init
-loop-place-init c = (omega arith, omega arith, refl)
-
-pub overflow_add-rows : goal.overflow_add-rows
-overflow_add-rows c =
+pub returns-in_err-end : goal.returns-in_err-end
+returns-in_err-end c =
     let x = c.args in
-    let w = passed x.zero_types.now x.body.now c.loop-place.place c.loop-place.rows c.loop-place.invariant.2 (omega (arith, c.loop-place-test.true)) c.end_of.ensures c.in-Whole.is in
-    omega (arith, w, c.loop-place.invariant.1)
+    let p = err_from_is_err_and c.from_residual.result c.from_residual.ensures.1 in
+    let o = mapped_err c.end_of.result c.map_err.ensures.variant c.in_err-end.was in
+    let k = MatchResult-at_err _ _ o.0 o.1 c.map_err.ensures.cases in
+    let q = err_from_is_err_and c.map_err.result k in
+    let w = q.2 in
+    let z : q.0 ≡ record { place = c.loop-place.place; answer = o.0 } = search (rules, w) in
+    let y : c.in_err-end.field-0.0 ≡ q.0 = search rules in
+    rw (p.1, p.2, y, z) (count_stop x.zero_types.now x.body.now c.loop-place.place c.loop-place.rows c.loop-place.invariant.2 c.loop-place-test.true c.end_of.ensures o.1)
 
 pub overflow_add-place : goal.overflow_add-place
 overflow_add-place c =
     let x = c.args in
-    let w = passed x.zero_types.now x.body.now c.loop-place.place c.loop-place.rows c.loop-place.invariant.2 (omega (arith, c.loop-place-test.true)) c.end_of.ensures c.in-Whole.is in
+    let w = passed x.zero_types.now x.body.now c.loop-place.place c.loop-place.rows c.loop-place.invariant.2 c.loop-place-test.true c.end_of.ensures (mapped_ok _ _ c.map_err.ensures.cases c.in_ok-end.was) in
     omega (arith, w)
 
 pub loop-place-smaller : goal.loop-place-smaller
 loop-place-smaller c =
     let x = c.args in
-    let w = passed x.zero_types.now x.body.now c.loop-place.place c.loop-place.rows c.loop-place.invariant.2 (omega (arith, c.loop-place-test.true)) c.end_of.ensures c.in-Whole.is in
+    let w = passed x.zero_types.now x.body.now c.loop-place.place c.loop-place.rows c.loop-place.invariant.2 c.loop-place-test.true c.end_of.ensures (mapped_ok _ _ c.map_err.ensures.cases c.in_ok-end.was) in
     omega (arith, w)
 
 pub loop-place-preserved : goal.loop-place-preserved
 loop-place-preserved c =
     let x = c.args in
-    let w = passed x.zero_types.now x.body.now c.loop-place.place c.loop-place.rows c.loop-place.invariant.2 (omega (arith, c.loop-place-test.true)) c.end_of.ensures c.in-Whole.is in
-    (omega (arith, w), omega (arith, w, c.loop-place.invariant.1), count_step x.zero_types.now x.body.now c.loop-place.place c.loop-place.rows c.loop-place.invariant.2 (omega (arith, c.loop-place-test.true)) c.end_of.ensures c.in-Whole.is)
-
-pub returns-in-Refused : goal.returns-in-Refused
-returns-in-Refused c =
-    let x = c.args in
-    count_stop x.zero_types.now x.body.now c.loop-place.place c.loop-place.rows c.loop-place.invariant.2 (omega (arith, c.loop-place-test.true)) c.end_of.ensures c.in-Refused.is
+    let o = mapped_ok _ _ c.map_err.ensures.cases c.in_ok-end.was in
+    let w = passed x.zero_types.now x.body.now c.loop-place.place c.loop-place.rows c.loop-place.invariant.2 c.loop-place-test.true c.end_of.ensures o in
+    (omega (arith, w), omega (arith, w, c.loop-place.invariant.1), count_step x.zero_types.now x.body.now c.loop-place.place c.loop-place.rows c.loop-place.invariant.2 c.loop-place-test.true c.end_of.ensures o)
 
 pub returns : goal.returns
-returns c = let l = c in count_end _ _ l.loop-place.place l.loop-place.rows l.loop-place.invariant.2 c.loop-place-test.false
+returns c = count_end _ _ c.loop-place.place c.loop-place.rows c.loop-place.invariant.2 c.loop-place-test.false

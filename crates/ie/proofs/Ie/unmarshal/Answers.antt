@@ -5,13 +5,13 @@ use Rattle.ie.proofs.Ie.unmarshal.Goals as goal
 pub returns-then-n-gt65535 : goal.returns-then-n-gt65535
 returns-then-n-gt65535 c = search too_long
 
-pub record_at-requires : goal.record_at-requires
-record_at-requires c =
+pub record_of-requires : goal.record_of-requires
+record_of-requires c =
     let x = c.args in
-    (ends x.zero_types.now x.s.now c.end_of.ensures c.in-Whole.is).0
+    (ends x.zero_types.now x.s.now c.end_of.ensures c.in-Ok.is).0
 
-pub returns-in-Refused : goal.returns-in-Refused
-returns-in-Refused c = search refused_one
+pub returns-in-Err : goal.returns-in-Err
+returns-in-Err c = search refused_one
 
-pub returns-in-Whole : goal.returns-in-Whole
-returns-in-Whole c = search found_one
+pub returns-in-Ok : goal.returns-in-Ok
+returns-in-Ok c = search found_one
