@@ -15,7 +15,7 @@ use Rattle.text.specs.declared.Checked.{Checked}
 use Rattle.text.specs.Utf8.{Range, rows, agree, seq_len, walk, good_len, best, bad_len, checked}
 use Rattle.text.specs.Steps.{Ascii, Passed}
 use Rattle.text.proofs.Agree.{agree_fits}
-use Rattle.text.proofs.Table.{ascii_at}
+use Rattle.text.proofs.Table.{sequence_ascii}
 
 -- ---- good_len
 
@@ -110,7 +110,7 @@ ended_on s from at r p e = omega (arith, p.same, e)
 -- ---- ASCII
 
 pub passed_ascii : (s : List ℕ) (at : ℕ) → at < length s → get_or s at 0 < 0x80 → Passed s at (at + 1)
-passed_ascii s at p q = passed_whole s at 1 (ascii_at s at p q) p
+passed_ascii s at p q = passed_whole s at 1 (sequence_ascii s at p q) p
 
 -- A bitwise or is ASCII only where both bytes are.
 pub or_ascii : (a b : ℕ) → bit_or a b < 0x80 → (a < 0x80) × (b < 0x80)

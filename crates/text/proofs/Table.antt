@@ -147,16 +147,16 @@ row_of_table l b found e f = rw f (rw e at (row_found 0 l b (rw e rows_rising)))
 
 -- ---- what `sequence` and `begun` find
 
-lead_of : (s : List ℕ) (at : ℕ) → get_or (drop at s) 0 0 ≡ get_or s at 0
+pub lead_of : (s : List ℕ) (at : ℕ) → get_or (drop at s) 0 0 ≡ get_or s at 0
 lead_of s at = get_or-drop at s 0 0 ∙ ap (λ (i : ℕ). get_or s i 0) (add-zero at)
 
-pub sequence_ascii : (s : List ℕ) → 0 < length s → get_or s 0 0 < 0x80 → 1 ≡ seq_len rows s
+ascii_first : (s : List ℕ) → 0 < length s → get_or s 0 0 < 0x80 → 1 ≡ seq_len rows s
 unfolding seq_len rows agree
-sequence_ascii [] p q = absurd (not-suc-le-zero p)
-sequence_ascii (b ∷ s) p q = rw (in_range (0 to 0x7F) b zero-le (omega arith))
+ascii_first [] p q = absurd (not-suc-le-zero p)
+ascii_first (b ∷ s) p q = rw (in_range (0 to 0x7F) b zero-le (omega arith))
 
-pub ascii_at : (text : List ℕ) (at : ℕ) → at < length text → get_or text at 0 < 0x80 → 1 ≡ seq_len rows (drop at text)
-ascii_at text at p q = sequence_ascii (drop at text) (omega (arith, length-drop at text)) (omega (arith, lead_of text at))
+pub sequence_ascii : (text : List ℕ) (at : ℕ) → at < length text → get_or text at 0 < 0x80 → 1 ≡ seq_len rows (drop at text)
+sequence_ascii text at p q = ascii_first (drop at text) (omega (arith, length-drop at text)) (omega (arith, lead_of text at))
 
 pub first_is : (s : List ℕ) (b : ℕ) → Some b ≡ slice_get s 0 → (0 < length s) × (get_or s 0 0 ≡ b)
 first_is [] b e = cc

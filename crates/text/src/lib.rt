@@ -70,16 +70,16 @@ fn agreeing(row: &[Bytes], text: &[u8]) -> usize
         .count()
 }
 
-// The length of the sequence that `text` begins with, where there is a whole one.
-fn sequence(text: &[u8]) -> Option<usize>
-    ensures { MatchOption result (seq_len rows text.now ≡ 0) (λ n. (0 < n) × (n ≤ length text.now) × (n ≡ seq_len rows text.now)) }
+// The length of the sequence at a place, where a whole one stands there.
+fn sequence(text: &[u8], at: usize) -> Option<usize>
+    ensures { MatchOption result (seq_len rows (drop at text.now) ≡ 0) (λ n. (0 < n) × (at + n ≤ length text.now) × (n ≡ seq_len rows (drop at text.now))) }
 {
-    let lead = *text.first()?;
+    let lead = *text.get(at)?;
     if lead < 0x80 {
         return Some(1);
     }
     let row = row_of(lead)?;
-    if agreeing(row, text) < row.len() {
+    if agreeing(row, &text[at..]) < row.len() {
         return None;
     }
     Some(row.len())
@@ -91,7 +91,7 @@ fn walk(text: &[u8], from: usize) -> usize
     ensures { result ≡ from + good_len (drop from text.now) }
 {
     let mut at = from;
-    while let Some(n) = sequence(&text[at..]) {
+    while let Some(n) = sequence(text, at) {
         at += n;
     }
     at
@@ -145,7 +145,10 @@ fn stride(text: &[u8], from: usize, end: usize) -> usize
     requires { from ≤ length text.now }
     ensures { Passed text.now from result }
 {
-    let last = end.min(text.len().saturating_sub(3));
+    let Some(before_last) = text.len().checked_sub(3) else {
+        return from;
+    };
+    let last = end.min(before_last);
     let mut at = from;
     while at < last {
         let Some(n) = whole(&text[at..at + 4]) else {

@@ -8,7 +8,7 @@ use Rattle.text.proofs.Table.{seq_four}
 use Rattle.text.proofs.stride.Goals as goal
 
 pub returns-in_default : goal.returns-in_default
-returns-in_default c = c.loop-at.invariant
+returns-in_default c = passed_none _ _ c.requires
 
 pub loop-at-init : goal.loop-at-init
 loop-at-init c = passed_none _ _ c.requires
@@ -18,5 +18,5 @@ loop-at-preserved c =
     let text = c.args.text.now in
     let at = c.loop-at.at in
     let four : at + 4 - at ≡ 4 = omega arith in
-    let n : c.in-Some.n ≡ seq_len rows (drop at text) = rw four at c.in-Some.ensures.2 ∙ seq_four (drop at text) (omega (arith, length-drop at text)) in
-    passed_on c.loop-at.invariant (passed_whole text at c.in-Some.n n (omega arith))
+    let n : c.in-Some-whole.n ≡ seq_len rows (drop at text) = rw four at c.in-Some-whole.ensures.2 ∙ seq_four (drop at text) (omega (arith, length-drop at text)) in
+    passed_on c.loop-at.invariant (passed_whole text at c.in-Some-whole.n n (omega arith))

@@ -5,7 +5,7 @@ use Rattle.text.proofs.Table.{sequence_ascii, whole_row}
 use Rattle.text.proofs.whole.Goals as goal
 
 pub returns-then-four-lt128 : goal.returns-then-four-lt128
-returns-then-four-lt128 c = (omega arith, omega arith, sequence_ascii c.args.four.now (omega arith) c.if-four-lt128.true)
+returns-then-four-lt128 c = (omega arith, omega arith, sequence_ascii c.args.four.now 0 (omega arith) c.if-four-lt128.true)
 
 pub returns-then-agrees : goal.returns-then-agrees
 unfolding rows
