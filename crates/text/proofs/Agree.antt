@@ -1,18 +1,18 @@
 -- Laws of a row: which bytes its ranges have, and how many bytes of a text agree with it.
-use mathlib.Core.Path.{◌≡◌, refl, ◌∙◌}
-use mathlib.Core.Bool.{Bool, true, false, cond, not, ◌&&◌, and-false, false≢true}
-use mathlib.Core.List.{List, [], ◌∷◌}
-use Prim.Native.Nat.{ℕ, zero, suc, ◌+◌, ◌-◌, ◌≤◌, ◌<◌, min, zero-le}
+use mathlib.Core.Path.{◌≡◌, refl, sym, ◌∙◌}
+use mathlib.Core.Bool.{Bool, true, false, cond, ◌&&◌, and-false, false≢true}
+use mathlib.Core.List.{List, [], ◌∷◌, ◌++◌}
+use Prim.Native.Nat.{ℕ, suc, ◌+◌, ◌≤◌, ◌<◌, min, zero-le}
 use native.Mathlib.Nat.{le_of_suc-le-suc, not-suc-le-zero}
-use native.Mathlib.Numerals.{add-one}
 use native.Mathlib.Omega.{arith}
-use borrow.Author.Tests.{le-leb, lt-leb, leb-true, not-true, not-false}
-use lib.Dec.{leb}
-use lib.ListN.{length, get_or, drop, replicate, length-take, length-drop, length-replicate}
-use lib.Seq.{get_or-drop, get_or-take}
-use Rattle.text.specs.declared.Row.{Row}
-use Rattle.text.specs.Utf8.{Range, ◌to◌, within, agree}
-use Rattle.text.specs.Steps.{trail, range_at, ranges}
+use borrow.Author.Tests.{le-leb, lt-leb, leb-true}
+use lib.Dec.{leb, eqb, eqb-zero-suc, eqb-suc-suc}
+use lib.ListN.{length, get_or, take, length-take}
+use Rattle.std.specs.Prelude.{take_while, zip}
+use Rattle.std.specs.List.{list_all, prefix_len}
+use Rattle.text.specs.declared.Bytes.{Bytes}
+use Rattle.text.specs.Utf8.{Range, within, agree}
+use Rattle.text.specs.Steps.{trail, range_of, ranges, allowed}
 
 -- ---- a range
 
@@ -57,36 +57,6 @@ unfolding agree
 agree_in r row [] p e = absurd (not-suc-le-zero p)
 agree_in r row (b ∷ s) p e = rw e (omega arith)
 
-agree_first : (row : List Range) (s : List ℕ) → 0 < agree row s → agree row s ≡ 1 + agree (drop 1 row) (drop 1 s)
-unfolding agree
-agree_first [] s p = absurd (not-suc-le-zero p)
-agree_first (r ∷ row) [] p = absurd (not-suc-le-zero p)
-agree_first (r ∷ row) (b ∷ s) p = go (within r b) p
-  where
-    go : (t : Bool) → 0 < cond t (suc (agree row s)) 0 → cond t (suc (agree row s)) 0 ≡ 1 + agree row s
-    go true q = omega arith
-    go false q = absurd (not-suc-le-zero q)
-
-agree_turn : (row : List Range) (s : List ℕ) (i : ℕ) → i < length row → i < length s
-    → agree (drop i row) (drop i s) ≡ cond (within (get_or row i trail) (get_or s i 0)) (suc (agree (drop (suc i) row) (drop (suc i) s))) 0
-unfolding agree
-agree_turn [] s i p q = absurd (not-suc-le-zero p)
-agree_turn (r ∷ row) [] i p q = absurd (not-suc-le-zero q)
-agree_turn (r ∷ row) (b ∷ s) zero p q = refl
-agree_turn (r ∷ row) (b ∷ s) (suc i) p q = agree_turn row s i (le_of_suc-le-suc p) (le_of_suc-le-suc q)
-
--- One byte more that lies in its range.
-pub agree_grows : (row : List Range) (s : List ℕ) (i : ℕ) → i ≤ agree row s → i < length row → i < length s → within (get_or row i trail) (get_or s i 0) ≡ true → suc i ≤ agree row s
-unfolding agree
-agree_grows [] s i h p q e = absurd (not-suc-le-zero p)
-agree_grows (r ∷ row) [] i h p q e = absurd (not-suc-le-zero q)
-agree_grows (r ∷ row) (b ∷ s) zero h p q e = rw e (omega arith)
-agree_grows (r ∷ row) (b ∷ s) (suc i) h p q e = go (within r b) h (λ g. agree_grows row s i g (le_of_suc-le-suc p) (le_of_suc-le-suc q) e)
-  where
-    go : (t : Bool) → suc i ≤ cond t (suc (agree row s)) 0 → (i ≤ agree row s → suc i ≤ agree row s) → suc (suc i) ≤ cond t (suc (agree row s)) 0
-    go true g more = omega (arith, more (le_of_suc-le-suc g))
-    go false g more = absurd (not-suc-le-zero g)
-
 -- A row's first range has the first byte of what agrees with it.
 pub agree_lead : (row : List Range) (s : List ℕ) → 0 < agree row s → within (get_or row 0 trail) (get_or s 0 0) ≡ true
 unfolding agree
@@ -98,57 +68,41 @@ agree_lead (r ∷ row) (b ∷ s) p = go (within r b) refl p
     go true e q = e
     go false e q = absurd (not-suc-le-zero q)
 
+-- The beginning u of a text u ++ v agrees with a row as far as the text does.
+pub agree_part : (row : List Range) (u v : List ℕ) → agree row u ≡ min (agree row (u ++ v)) (length u)
+unfolding agree
+agree_part [] u v = omega arith
+agree_part (r ∷ row) [] v = omega arith
+agree_part (r ∷ row) (b ∷ u) v = go (within r b) (agree_part row u v)
+  where
+    go : (t : Bool) → agree row u ≡ min (agree row (u ++ v)) (length u)
+        → cond t (suc (agree row u)) 0 ≡ min (cond t (suc (agree row (u ++ v))) 0) (suc (length u))
+    go true h = omega arith
+    go false h = omega arith
+
 -- ---- a row of the code's table
 
-pub length_ranges : (row : Row) → length (ranges row) ≡ row.4
-unfolding ranges
-length_ranges row =
-    omega (arith, length-take row.4 (row.0 to row.1 ∷ row.2 to row.3 ∷ replicate (row.4 - 2) trail), length-replicate (row.4 - 2) trail)
-
-pub third_range : (row : Row) (i : ℕ) → 2 ≤ i → range_at row i ≡ trail
-unfolding range_at
-third_range row zero p = absurd (omega arith)
-third_range row (suc zero) p = absurd (omega arith)
-third_range row (suc (suc i)) p = refl
-
-trails : (n i : ℕ) → get_or (replicate n trail) i trail ≡ trail
-trails zero i = refl
-trails (suc n) zero = refl
-trails (suc n) (suc i) = trails n i
-
-pub range_at_law : (row : Row) (i : ℕ) → i < row.4 → get_or (ranges row) i trail ≡ range_at row i
-unfolding ranges range_at
-range_at_law row i p = get_or-take _ _ _ _ p ∙ go i
+pub agree_counts : (row : List Bytes) (s : List ℕ) → length (take_while allowed (zip row s)) ≡ agree (ranges row) s
+unfolding agree
+agree_counts [] s = refl
+agree_counts (r ∷ row) [] = refl
+agree_counts (r ∷ row) (b ∷ s) = go (within (range_of r) b) (agree_counts row s)
   where
-    go : (i : ℕ) → get_or (row.0 to row.1 ∷ row.2 to row.3 ∷ replicate (row.4 - 2) trail) i trail ≡ get_or (row.0 to row.1 ∷ row.2 to row.3 ∷ []) i trail
-    go zero = refl
-    go (suc zero) = refl
-    go (suc (suc i)) = trails (row.4 - 2) i
+    n : ℕ
+    n = prefix_len allowed (zip row s)
 
--- ---- the loop of `agreeing`
+    go : (t : Bool) → length (take n (zip row s)) ≡ agree (ranges row) s
+        → length (take (cond t (1 + n) 0) ((r, b) ∷ zip row s)) ≡ cond t (suc (agree (ranges row) s)) 0
+    go true h = omega (arith, length-take (1 + n) ((r, b) ∷ zip row s), length-take n (zip row s), h)
+    go false h = refl
 
--- What it knows after i bytes.
-abbrev pub Agreed : List ℕ → ℕ → Row → ℕ → Type 0
-Agreed text at row i = agree (ranges row) (drop at text) ≡ i + agree (drop i (ranges row)) (drop i (drop at text))
-
-pub agreed_first : (text : List ℕ) (at : ℕ) (row : Row) (n : ℕ) → n ≡ min row.4 (length text - at) → 0 < agree (ranges row) (drop at text) → (1 ≤ n) × Agreed text at row 1
-agreed_first text at row n is p =
-    (omega (arith, agree_fits (ranges row) (drop at text), length_ranges row, length-drop at text), agree_first (ranges row) (drop at text) p)
-
-module _ (text : List ℕ) (at : ℕ) (row : Row) (i n : ℕ) (is : n ≡ min row.4 (length text - at)) (known : Agreed text at row i) where
-  pub agreed_end : n ≤ i → i ≡ agree (ranges row) (drop at text)
-  agreed_end p =
-      omega (arith, agree_fits (drop i (ranges row)) (drop i (drop at text)), length-drop i (ranges row), length-drop i (drop at text), length_ranges row, length-drop at text)
-
-  module _ (t : Bool) (below : i < n) (test : t ≡ within (range_at row i) (get_or text (at + i) 0)) where
-    turn : agree (ranges row) (drop at text) ≡ i + cond t (suc (agree (drop (suc i) (ranges row)) (drop (suc i) (drop at text)))) 0
-    turn =
-        let in_row : i < length (ranges row) = omega (arith, length_ranges row) in
-        let in-text : i < length (drop at text) = omega (arith, length-drop at text) in
-        rw (known, agree_turn (ranges row) (drop at text) i in_row in-text, range_at_law row i (omega arith), get_or-drop at text i 0, test)
-
-    pub agreed_stop : not t ≡ true → i ≡ agree (ranges row) (drop at text)
-    agreed_stop e = rw (turn, not-true t e) (omega arith)
-
-    pub agreed_more : not t ≡ false → Agreed text at row (i + 1)
-    agreed_more e = rw (add-one, turn, not-false t e) (omega arith)
+pub agree_all : (row : List Bytes) (s : List ℕ) → length row ≤ length s → list_all allowed (zip row s) ≡ eqb (agree (ranges row) s) (length (ranges row))
+unfolding agree
+agree_all [] s p = refl
+agree_all (r ∷ row) [] p = absurd (not-suc-le-zero p)
+agree_all (r ∷ row) (b ∷ s) p = go (within (range_of r) b) (agree_all row s (le_of_suc-le-suc p))
+  where
+    go : (t : Bool) → list_all allowed (zip row s) ≡ eqb (agree (ranges row) s) (length (ranges row))
+        → t && list_all allowed (zip row s) ≡ eqb (cond t (suc (agree (ranges row) s)) 0) (suc (length (ranges row)))
+    go true h = h ∙ sym (eqb-suc-suc (agree (ranges row) s) (length (ranges row)))
+    go false h = sym (eqb-zero-suc (length (ranges row)))

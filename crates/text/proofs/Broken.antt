@@ -6,7 +6,7 @@ use Prim.Native.Nat.{ℕ, suc, ◌≤◌, ◌<◌, min, max, zero-le, suc-le-suc
 use native.Mathlib.Nat.{le_refl}
 use native.Mathlib.Omega.{arith}
 use borrow.Author.Rules.{rules}
-use borrow.Author.Tests.{leb-true, leb-false, eqb-true, eqb-false, eq-eqb, ne_eqb}
+use borrow.Author.Tests.{leb-true, leb-false, eqb-true, eqb-false, eq-eqb}
 use lib.Dec.{leb, eqb}
 use lib.ListN.{length, get_or, take, drop, length-append, length-drop, take-append-drop}
 use lib.Seq.{take-add, length-take-le}
@@ -14,7 +14,8 @@ use Rattle.text.specs.Utf8.{Range, within, rows, agree, seq_len, good_len, best,
 use Rattle.text.specs.Meaning.{Sequence, WellFormed, Completable, BadSequence}
 use Rattle.text.specs.Meaning.Sequence.{end, byte}
 use Rattle.text.specs.Meaning.WellFormed.{none, more}
-use Rattle.text.proofs.Agree.{range_in, agree_fits}
+use Rattle.text.proofs.Agree.{range_in, agree_fits, agree_part}
+use Rattle.text.proofs.Table.{seq_part}
 use Rattle.text.proofs.Laws.{good_step, good_none, good_fits}
 use Rattle.text.proofs.Longest.{well_then, longest}
 use Rattle.text.proofs.Parts.{good_well, well_good, well_append}
@@ -58,18 +59,6 @@ seq_best (row ∷ l) s = go (eqb (agree row s) (length row)) refl (seq_best l s)
 
 -- ---- a beginning u of a text u ++ v
 
--- It agrees with a row as far as the text does.
-agree_part : (row : List Range) (u v : List ℕ) → agree row u ≡ min (agree row (u ++ v)) (length u)
-unfolding agree
-agree_part [] u v = omega arith
-agree_part (r ∷ row) [] v = omega arith
-agree_part (r ∷ row) (b ∷ u) v = go (within r b) (agree_part row u v)
-  where
-    go : (t : Bool) → agree row u ≡ min (agree row (u ++ v)) (length u)
-        → cond t (suc (agree row u)) 0 ≡ min (cond t (suc (agree row (u ++ v))) 0) (suc (length u))
-    go true h = omega arith
-    go false h = omega arith
-
 best_part : (l : List (List Range)) (u v : List ℕ) → best l u ≡ min (best l (u ++ v)) (length u)
 unfolding best
 best_part [] u v = omega arith
@@ -77,20 +66,6 @@ best_part (row ∷ l) u v = omega (arith, agree_part row u v, best_part l u v)
 
 best_fits : (l : List (List Range)) (s : List ℕ) → best l s ≤ length s
 best_fits l s = omega (arith, best_part l s [])
-
--- It begins with the text's sequence, unless that is longer.
-seq_part : (l : List (List Range)) (u v : List ℕ) → seq_len l (u ++ v) ≤ length u → seq_len l u ≡ seq_len l (u ++ v)
-unfolding seq_len
-seq_part [] u v p = refl
-seq_part (row ∷ l) u v p = go (eqb (agree row (u ++ v)) (length row)) refl (seq_part l u v) p
-  where
-    go : (t : Bool) → eqb (agree row (u ++ v)) (length row) ≡ t → (seq_len l (u ++ v) ≤ length u → seq_len l u ≡ seq_len l (u ++ v))
-        → cond t (length row) (seq_len l (u ++ v)) ≤ length u
-        → cond (eqb (agree row u) (length row)) (length row) (seq_len l u) ≡ cond t (length row) (seq_len l (u ++ v))
-    go true e h p = rw (eq-eqb (agree row u) (length row) (omega (arith, eqb-true (agree row (u ++ v)) (length row) e, agree_part row u v)))
-    go false e h p =
-        let differ = eqb-false (agree row (u ++ v)) (length row) e in
-        rw (ne_eqb (agree row u) (length row) (λ f. differ (omega (arith, f, agree_part row u v, agree_fits row (u ++ v))))) (h p)
 
 -- ---- a begun sequence can be completed
 

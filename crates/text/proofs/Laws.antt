@@ -3,18 +3,19 @@ use mathlib.Core.Path.{◌≡◌, refl, sym, ap, ◌∙◌}
 use mathlib.Core.Bool.{Bool, true, false, cond}
 use mathlib.Core.List.{List, [], ◌∷◌}
 use Prim.Native.Nat.{ℕ, zero, suc, ◌+◌, ◌-◌, ◌≤◌, ◌<◌, max, zero-le}
-use native.Mathlib.Nat.{zero-add}
+use native.Mathlib.Nat.{zero-add, le_of_suc-le-suc, not-suc-le-zero}
 use native.Mathlib.Omega.{arith}
-use borrow.Author.Tests.{eqb-true, ltb-true, ltb-false}
+use borrow.Author.Tests.{eqb-true}
 use lib.Bits.{bit_or, or_add_and, and_le_l, and_le_r}
-use lib.Dec.{eqb, ltb}
-use lib.ListN.{length, get_or, drop, length-drop, drop_of_length-le}
-use lib.Seq.{drop-drop}
+use lib.Dec.{eqb}
+use lib.ListN.{length, get_or, take, drop, length-take, length-drop, drop_of_length-le}
+use lib.Seq.{drop-drop, get_or-drop, get_or-take}
+use Rattle.std.specs.Prelude.{fold}
 use Rattle.text.specs.declared.Checked.{Checked}
 use Rattle.text.specs.Utf8.{Range, rows, agree, seq_len, walk, good_len, best, bad_len, checked}
 use Rattle.text.specs.Steps.{Ascii, Passed}
 use Rattle.text.proofs.Agree.{agree_fits}
-use Rattle.text.proofs.Table.{sequence_ascii, whole_row}
+use Rattle.text.proofs.Table.{sequence_ascii}
 
 -- ---- good_len
 
@@ -93,11 +94,6 @@ module _ (s : List ℕ) (at n : ℕ) (e : n ≡ seq_len rows (drop at s)) where
   pub good_ends : n ≡ 0 → good_len (drop at s) ≡ 0
   good_ends z = good_none (drop at s) (sym e ∙ z)
 
--- What agrees with all of a row is a sequence.
-pub passed_row : (s : List ℕ) (at k n : ℕ) → at + 4 ≤ length s → k < 9 → length (get_or rows k []) ≡ n → n ≤ agree (get_or rows k []) (drop at s) → Passed s at (at + n)
-passed_row s at k n room p e h =
-    passed_length s at n (omega (arith, agree_fits (get_or rows k []) (drop at s), length-drop at s)) (whole_row s at k room p n e h)
-
 pub good_end : (s : List ℕ) (at : ℕ) → length s ≤ at → good_len (drop at s) ≡ 0
 good_end s at p = omega (arith, good_fits (drop at s), length-drop at s)
 
@@ -120,15 +116,27 @@ passed_ascii s at p q = passed_whole s at 1 (sequence_ascii s at p q) p
 pub or_ascii : (a b : ℕ) → bit_or a b < 0x80 → (a < 0x80) × (b < 0x80)
 or_ascii a b p = (omega (arith, or_add_and a b, and_le_r a b), omega (arith, or_add_and a b, and_le_l a b))
 
-pub ascii_none : (s : List ℕ) (at : ℕ) → at ≤ length s → Ascii s at (at + 0)
-ascii_none s at p = record { inside = omega arith; each = λ i q r. absurd (omega (arith, q, r)) }
-
-pub ascii_more : (s : List ℕ) (from n : ℕ) → Ascii s from (from + n) → from + n < length s → get_or s (from + n) 0 < 0x80 → Ascii s from (from + n + 1)
-ascii_more s from n h p q = record { inside = omega arith; each = λ i l u. go i (ltb i (from + n)) refl l u }
+-- The bitwise or of all bytes is ASCII only where each is.
+or_all : (bs : List ℕ) (a : ℕ) → fold bit_or a bs < 0x80 → (a < 0x80) × ((i : ℕ) → i < length bs → get_or bs i 0 < 0x80)
+or_all [] a p = (p, λ i q. absurd (not-suc-le-zero q))
+or_all (b ∷ bs) a p = go (or_all bs (bit_or a b) p)
   where
-    go : (i : ℕ) (t : Bool) → ltb i (from + n) ≡ t → from ≤ i → i < from + n + 1 → get_or s i 0 < 0x80
-    go i true e l u = h.each i l (ltb-true _ _ e)
-    go i false e l u = let last : i ≡ from + n = omega (arith, ltb-false i (from + n) e) in rw last q
+    go : (bit_or a b < 0x80) × ((i : ℕ) → i < length bs → get_or bs i 0 < 0x80) → (a < 0x80) × ((i : ℕ) → i < suc (length bs) → get_or (b ∷ bs) i 0 < 0x80)
+    go rest = ((or_ascii a b rest.0).0, each)
+      where
+        each : (i : ℕ) → i < suc (length bs) → get_or (b ∷ bs) i 0 < 0x80
+        each zero q = (or_ascii a b rest.0).1
+        each (suc i) q = rest.1 i (le_of_suc-le-suc q)
+
+pub ascii_block : (s : List ℕ) (at n : ℕ) → at + n ≤ length s → fold bit_or 0 (take n (drop at s)) < 0x80 → Ascii s at (at + n)
+ascii_block s at n p q = record {
+  inside = p;
+  each = λ i l u.
+      let k : i - at < n = omega (arith, l, u) in
+      let place : at + (i - at) ≡ i = omega (arith, l) in
+      let here = (or_all (take n (drop at s)) 0 q).1 (i - at) (omega (arith, k, length-take n (drop at s), length-drop at s)) in
+      rw place at (rw get_or-drop at (rw (get_or-take n (drop at s) (i - at) 0 k) at here));
+}
 
 -- ASCII is passed from every place in it on.
 pub passed_run : (s : List ℕ) (from until at : ℕ) → Ascii s from until → from ≤ at → at ≤ until → Passed s at until

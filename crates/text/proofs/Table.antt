@@ -1,20 +1,23 @@
 -- Laws of the table: its rows begin with different bytes, so that a text's first byte decides which row counts.
 use mathlib.Core.Path.{◌≡◌, refl, sym, ap, ◌∙◌}
-use mathlib.Core.Bool.{Bool, true, false, cond, not}
-use mathlib.Core.List.{List, [], ◌∷◌}
-use Prim.Native.Nat.{ℕ, zero, suc, ◌+◌, ◌≤◌, ◌<◌, zero-le}
+use mathlib.Core.Bool.{Bool, true, false, cond}
+use mathlib.Core.List.{List, [], ◌∷◌, ◌++◌}
+use Prim.Native.Nat.{ℕ, zero, suc, ◌≤◌, ◌<◌, zero-le}
 use native.Mathlib.Nat.{le_of_suc-le-suc, not-suc-le-zero, add-zero}
-use native.Mathlib.Numerals.{add-one}
 use native.Mathlib.Omega.{arith}
 use borrow.Author.Rules.{rules}
-use borrow.Author.Tests.{eq-eqb, ne_eqb, not-false}
+use borrow.Author.Tests.{eq-eqb, ne_eqb, eqb-true, eqb-false}
 use lib.Dec.{eqb, eqb-zero-suc}
-use lib.ListN.{length, get_or, drop, length-drop, drop_of_length-le}
+use lib.ListN.{length, get_or, take, drop, length-drop, length-take, take-append-drop}
+use Rattle.std.proofs.lemmas.List.{length-map}
 use lib.Seq.{get_or-drop}
-use Rattle.text.specs.declared.Row.{Row}
+use denote.Ref.{Bor}
+use Rattle.std.specs.Prelude.{Option, None, Some, find, take_while, zip, MatchOption, map, slice_get}
+use Rattle.std.specs.List.{list_all}
+use Rattle.text.specs.declared.Bytes.{Bytes}
 use Rattle.text.specs.Utf8.{Range, ◌to◌, within, rows, agree, seq_len, best}
-use Rattle.text.specs.Steps.{trail, range_at, ranges, row_for}
-use Rattle.text.proofs.Agree.{in_range, below_range, above_range, range_in, agree_fits, agree_out, agree_in, agree_grows, agree_lead, length_ranges, range_at_law}
+use Rattle.text.specs.Steps.{trail, range_of, ranges, leads, led_by, allowed, row_for}
+use Rattle.text.proofs.Agree.{in_range, below_range, above_range, range_in, agree_fits, agree_out, agree_in, agree_lead, agree_part, agree_counts, agree_all}
 
 -- ---- the order of the rows
 
@@ -111,61 +114,40 @@ full_row h ((r ∷ row) ∷ l) (suc k) s o p e =
     let out = row_out r row l s (above_range r (get_or s 0 0) (omega (arith, next.1, lead.0))) in
     out.0 ∙ full_row (suc r.high) l k s o.2 (le_of_suc-le-suc p) e
 
--- ---- the tests of a row where four bytes are left
+-- ---- what `row_of` finds
 
-module _ (text : List ℕ) (at k : ℕ) (room : at + 4 ≤ length text) (p : k < 9) where
-  pub grown : (row : Row) (i : ℕ) (t : Bool) → ranges row ≡ get_or rows k [] → i < 4 → i < length (get_or rows k []) → i ≤ agree (get_or rows k []) (drop at text)
-      → t ≡ within (range_at row i) (get_or text (at + i) 0) → t ≡ true → suc i ≤ agree (get_or rows k []) (drop at text)
-  grown row i t is small in_row h test e =
-      let below : i < row.4 = omega (arith, length_ranges row, ap length is) in
-      let range : get_or (get_or rows k []) i trail ≡ range_at row i = rw (← is) (range_at_law row i below) in
-      agree_grows (get_or rows k []) (drop at text) i h in_row (omega (arith, length-drop at text)) (rw (range, get_or-drop at text i 0, ← test) e)
+abbrev pub RowFor : List (List Range) → ℕ → Option (Bor (List Bytes)) → Type 0
+RowFor l b found = MatchOption found (row_for l b ≡ []) (λ row. (0 < length row.now) × (ranges row.now ≡ row_for l b))
 
-  pub two_grown : (row : Row) (t u : Bool) → ranges row ≡ get_or rows k [] → 2 ≤ length (get_or rows k []) → t ≡ within (range_at row 0) (get_or text at 0)
-      → u ≡ within (range_at row 1) (get_or text (at + 1) 0) → not t ≡ false → u ≡ true → 2 ≤ agree (get_or rows k []) (drop at text)
-  two_grown row t u is long first second f e =
-      let one = grown row 0 t is (omega arith) (omega arith) zero-le (rw (add-zero at) first) (not-false t f) in
-      grown row 1 u is (omega arith) (omega arith) one second e
+abbrev pub shown : List (Bor (List Bytes)) → List (List Range)
+shown l = map (λ (row : Bor (List Bytes)). ranges row.now) l
 
-  pub whole_row : (n : ℕ) → length (get_or rows k []) ≡ n → n ≤ agree (get_or rows k []) (drop at text) → seq_len rows (drop at text) ≡ n
-  unfolding rows
-  whole_row n e h = full_row 0 rows k (drop at text) rows_rising p (omega (arith, agree_fits (get_or rows k []) (drop at text))) ∙ e
+-- The first row that a byte leads.
+pub row_found : (h : ℕ) (l : List (Bor (List Bytes))) (b : ℕ) → Rising h (shown l) → RowFor (shown l) b (find (led_by b) l)
+unfolding Rising row_for
+row_found h [] b o = refl
+row_found h (first ∷ l) b o = go first.now refl o (λ high p. row_found high l b p)
+  where
+    found : Option (Bor (List Bytes))
+    found = find (led_by b) l
 
--- ---- the loop of `row_of`
+    go : (row : List Bytes) → first.now ≡ row → Rising h (ranges row ∷ shown l) → ((high : ℕ) → Rising high (shown l) → RowFor (shown l) b found)
+        → RowFor (ranges row ∷ shown l) b (cond (leads row b) (Some first) found)
+    go [] e o rest = absurd o
+    go (r ∷ row) e o rest = by_test (within (range_of r) b) (rest (suc r.1) o.2)
+      where
+        by_test : (t : Bool) → RowFor (shown l) b found
+            → MatchOption (cond t (Some first) found) (cond t (ranges (r ∷ row)) (row_for (shown l) b) ≡ [])
+            (λ row'. (0 < length row'.now) × (ranges row'.now ≡ cond t (ranges (r ∷ row)) (row_for (shown l) b)))
+        by_test true f = rw e (omega arith, refl)
+        by_test false f = f
 
--- What it knows before row k.
-abbrev pub Sought : ℕ → ℕ → Type 0
-Sought b k = row_for rows b ≡ row_for (drop k rows) b
-
-row_turn : (l : List (List Range)) (k b : ℕ) → k < length l → row_for (drop k l) b ≡ cond (within (get_or (get_or l k []) 0 trail) b) (get_or l k []) (row_for (drop (suc k) l) b)
-unfolding row_for
-row_turn [] k b p = absurd (not-suc-le-zero p)
-row_turn (row ∷ l) zero b p = refl
-row_turn (row ∷ l) (suc k) b p = row_turn l k b (le_of_suc-le-suc p)
-
-pub row_full : (k : ℕ) (row : Row) → k < 9 → ranges row ≡ get_or rows k [] → row.4 ≡ 0 → ⊥
-unfolding rows
-row_full k row p is z =
-    let full : 0 < length (ranges row) = rw is (rising_at 0 rows k rows_rising p).0 in
-    omega (arith, full, length_ranges row, z)
-
-module _ (b k : ℕ) (row : Row) (t : Bool) (p : k < 9) (known : Sought b k) (is : ranges row ≡ get_or rows k []) (test : t ≡ within (range_at row 0) b) where
-  turn : row_for rows b ≡ cond t (get_or rows k []) (row_for (drop (suc k) rows) b)
-  unfolding rows
-  turn =
-      let full : 0 < length (ranges row) = rw is (rising_at 0 rows k rows_rising p).0 in
-      let first : get_or (get_or rows k []) 0 trail ≡ range_at row 0 = rw (← is) (range_at_law row 0 (omega (arith, length_ranges row))) in
-      rw (known, row_turn rows k b p, first, test)
-
-  pub row_found : t ≡ true → ranges row ≡ row_for rows b
-  row_found e = is ∙ sym (turn ∙ rw e)
-
-  pub row_passed : t ≡ false → Sought b (k + 1)
-  row_passed e = rw add-one (turn ∙ rw e)
+pub row_of_table : (l : List (Bor (List Bytes))) (b : ℕ) (found : Option (Bor (List Bytes))) → shown l ≡ rows → found ≡ find (led_by b) l → RowFor rows b found
+row_of_table l b found e f = rw f (rw e at (row_found 0 l b (rw e rows_rising)))
 
 -- ---- what `sequence` and `begun` find
 
-lead_of : (s : List ℕ) (at : ℕ) → get_or (drop at s) 0 0 ≡ get_or s at 0
+pub lead_of : (s : List ℕ) (at : ℕ) → get_or (drop at s) 0 0 ≡ get_or s at 0
 lead_of s at = get_or-drop at s 0 0 ∙ ap (λ (i : ℕ). get_or s i 0) (add-zero at)
 
 ascii_first : (s : List ℕ) → 0 < length s → get_or s 0 0 < 0x80 → 1 ≡ seq_len rows s
@@ -176,35 +158,100 @@ ascii_first (b ∷ s) p q = rw (in_range (0 to 0x7F) b zero-le (omega arith))
 pub sequence_ascii : (text : List ℕ) (at : ℕ) → at < length text → get_or text at 0 < 0x80 → 1 ≡ seq_len rows (drop at text)
 sequence_ascii text at p q = ascii_first (drop at text) (omega (arith, length-drop at text)) (omega (arith, lead_of text at))
 
-module _ (text : List ℕ) (at : ℕ) (row : Row) (is : ranges row ≡ row_for rows (get_or text at 0)) (p : at < length text) where
-  here : ranges row ≡ row_for rows (get_or (drop at text) 0 0)
-  here = is ∙ ap (row_for rows) (sym (lead_of text at))
+pub first_is : (s : List ℕ) (b : ℕ) → Some b ≡ slice_get s 0 → (0 < length s) × (get_or s 0 0 ≡ b)
+first_is [] b e = cc
+first_is (x ∷ s) b e = (omega arith, cc)
 
-  pub lead_agrees : (row.4 ≡ 0 → ⊥) → 0 < agree (ranges row) (drop at text)
-  lead_agrees q =
-      let full : 0 < length (row_for rows (get_or (drop at text) 0 0)) = rw (← here) (omega (arith, length_ranges row)) in
-      rw here (found_agrees rows (drop at text) (omega (arith, length-drop at text)) full)
+-- No row begins an empty text, or one whose first byte leads none.
+pub nothing_begun : (s : List ℕ) → None ≡ slice_get s 0 → (seq_len rows s ≡ 0) × (best rows s ≡ 0)
+unfolding seq_len best rows agree
+nothing_begun [] e = (refl, refl)
+nothing_begun (x ∷ s) e = cc
 
-  pub begun_row : (n : ℕ) → n ≡ agree (ranges row) (drop at text) → n ≡ best rows (drop at text)
-  begun_row n e = e ∙ rw here (sym (decided 0 rows (drop at text) rows_rising).1)
+pub none_begun : (s : List ℕ) → row_for rows (get_or s 0 0) ≡ [] → (seq_len rows s ≡ 0) × (best rows s ≡ 0)
+unfolding seq_len agree
+none_begun s e =
+    let d = decided 0 rows s rows_rising in
+    (d.0 ∙ rw e, d.1 ∙ rw e)
 
-  one_row : seq_len rows (drop at text) ≡ cond (eqb (agree (ranges row) (drop at text)) row.4) row.4 0
+-- How many bytes agree, in the words of the code's chain.
+abbrev agreed : List Bytes → List ℕ → ℕ
+agreed row s = length (take_while allowed (zip row s))
+
+module _ (s : List ℕ) (row : List Bytes) (is : ranges row ≡ row_for rows (get_or s 0 0)) where
+  pub begun_row : (n : ℕ) → n ≡ agreed row s → n ≡ best rows s
+  begun_row n e = e ∙ agree_counts row s ∙ rw is (sym (decided 0 rows s rows_rising).1)
+
+  one_row : seq_len rows s ≡ cond (eqb (agree (ranges row) s) (length row)) (length row) 0
   unfolding seq_len
-  one_row = rw (length_ranges row) at (rw (← here) at (decided 0 rows (drop at text) rows_rising).0)
+  one_row = rw (length-map row range_of) at (rw (← is) at (decided 0 rows s rows_rising).0)
 
-  pub sequence_none : row.4 ≡ 0 → 0 ≡ seq_len rows (drop at text)
-  sequence_none e = rw (one_row, eq-eqb (agree (ranges row) (drop at text)) row.4 (omega (arith, agree_fits (ranges row) (drop at text), length_ranges row))) (sym e)
+  pub sequence_cut : (n : ℕ) → n ≡ agreed row s → n < length row → seq_len rows s ≡ 0
+  sequence_cut n e q = rw (one_row, ne_eqb (agree (ranges row) s) (length row) (λ f. omega (arith, e, f, agree_counts row s)))
 
-  pub sequence_cut : (n : ℕ) → n ≡ agree (ranges row) (drop at text) → n < row.4 → 0 ≡ seq_len rows (drop at text)
-  sequence_cut n e q = rw (one_row, ne_eqb (agree (ranges row) (drop at text)) row.4 (λ f. omega (arith, e, f)))
+  pub sequence_whole : (n : ℕ) → n ≡ agreed row s → length row ≤ n → (length row ≤ length s) × (length row ≡ seq_len rows s)
+  sequence_whole n e q =
+      let fits = agree_fits (ranges row) s in
+      let same : agree (ranges row) s ≡ length row = omega (arith, e, agree_counts row s, fits, length-map row range_of) in
+      (omega (arith, fits, same), rw (one_row, eq-eqb (agree (ranges row) s) (length row) same))
 
-  pub sequence_whole : (n : ℕ) → n ≡ agree (ranges row) (drop at text) → row.4 ≤ n → row.4 ≡ seq_len rows (drop at text)
-  sequence_whole n e q = rw (one_row, eq-eqb (agree (ranges row) (drop at text)) row.4 (omega (arith, e, agree_fits (ranges row) (drop at text), length_ranges row)))
+-- ---- the tests of four bytes
 
--- No row has the first byte.
-pub begun_none : (text : List ℕ) (at k : ℕ) → 9 ≤ k → Sought (get_or text at 0) k → 0 ≡ best rows (drop at text)
-unfolding row_for agree rows
-begun_none text at k p known =
-    let none : drop k rows ≡ [] = drop_of_length-le rows p in
-    let row : row_for rows (get_or (drop at text) 0 0) ≡ [] = rw (lead_of text at) (known ∙ rw none) in
-    sym ((decided 0 rows (drop at text) rows_rising).1 ∙ rw row)
+-- No row of l has more than four ranges.
+Short : List (List Range) → Type 0
+Short [] = Unit {0}
+Short (row ∷ l) = (length row ≤ 4) × Short l
+
+short_at : (l : List (List Range)) (k : ℕ) → Short l → length (get_or l k []) ≤ 4
+unfolding Short
+short_at [] k o = zero-le
+short_at (row ∷ l) zero o = o.0
+short_at (row ∷ l) (suc k) o = short_at l k o.1
+
+-- A row of the definition's table as the code's has it.
+abbrev pub coded : List Range → List Bytes
+coded row = map (λ (r : Range). (r.low, r.high)) row
+
+coded_same : (row : List Range) → ranges (coded row) ≡ row
+coded_same [] = refl
+coded_same (r ∷ row) = ap (λ (l : List Range). r ∷ l) (coded_same row)
+
+-- A row all of whose ranges agree.
+pub whole_row : (k : ℕ) (s : List ℕ) → k < 9 → 4 ≤ length s → list_all allowed (zip (coded (get_or rows k [])) s) ≡ true → length (get_or rows k []) ≡ seq_len rows s
+unfolding Short rows
+whole_row k s p q h =
+    let row = coded (get_or rows k []) in
+    let same : ranges row ≡ get_or rows k [] = coded_same (get_or rows k []) in
+    let fits : length row ≤ length s = omega (arith, short_at rows k (search rules), ap length same, length-map row range_of) in
+    let full : agree (ranges row) s ≡ length (ranges row) = eqb-true _ _ (sym (agree_all row s fits) ∙ h) in
+    sym (full_row 0 rows k s rows_rising p (rw same at full))
+
+seq_short : (l : List (List Range)) (s : List ℕ) → Short l → seq_len l s ≤ 4
+unfolding Short seq_len
+seq_short [] s o = zero-le
+seq_short (row ∷ l) s o = go (eqb (agree row s) (length row)) (seq_short l s o.1)
+  where
+    go : (t : Bool) → seq_len l s ≤ 4 → cond t (length row) (seq_len l s) ≤ 4
+    go true h = o.0
+    go false h = h
+
+-- The beginning u of a text u ++ v begins with the text's sequence, unless that is longer.
+pub seq_part : (l : List (List Range)) (u v : List ℕ) → seq_len l (u ++ v) ≤ length u → seq_len l u ≡ seq_len l (u ++ v)
+unfolding seq_len
+seq_part [] u v p = refl
+seq_part (row ∷ l) u v p = go (eqb (agree row (u ++ v)) (length row)) refl (seq_part l u v) p
+  where
+    go : (t : Bool) → eqb (agree row (u ++ v)) (length row) ≡ t → (seq_len l (u ++ v) ≤ length u → seq_len l u ≡ seq_len l (u ++ v))
+        → cond t (length row) (seq_len l (u ++ v)) ≤ length u
+        → cond (eqb (agree row u) (length row)) (length row) (seq_len l u) ≡ cond t (length row) (seq_len l (u ++ v))
+    go true e h p = rw (eq-eqb (agree row u) (length row) (omega (arith, eqb-true (agree row (u ++ v)) (length row) e, agree_part row u v)))
+    go false e h p =
+        let differ = eqb-false (agree row (u ++ v)) (length row) e in
+        rw (ne_eqb (agree row u) (length row) (λ f. differ (omega (arith, f, agree_part row u v, agree_fits row (u ++ v))))) (h p)
+
+-- The first four bytes of a text begin with its sequence.
+pub seq_four : (s : List ℕ) → 4 ≤ length s → seq_len rows (take 4 s) ≡ seq_len rows s
+unfolding Short rows
+seq_four s p =
+    let short : seq_len rows (take 4 s ++ drop 4 s) ≤ 4 = seq_short rows (take 4 s ++ drop 4 s) (search rules) in
+    rw take-append-drop at (seq_part rows (take 4 s) (drop 4 s) (omega (arith, short, length-take 4 s)))

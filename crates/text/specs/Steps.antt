@@ -1,18 +1,32 @@
 -- What the private functions answer: nothing here is the paper's. No promise of a public function cites this file.
-use Rattle.std.specs.Prelude.{ℕ, ◌+◌, ◌-◌, ◌≤◌, ◌<◌, ◌≡◌, cond, List, [], ◌∷◌, length, take, drop, get_or, replicate}
-use Rattle.text.specs.declared.Row.{Row}
+use Rattle.std.specs.Prelude.{ℕ, ◌+◌, ◌≤◌, ◌<◌, ◌≡◌, Bool, false, cond, List, [], ◌∷◌, length, drop, get_or, map}
+use denote.Ref.{Bor}
+use Rattle.text.specs.declared.Bytes.{Bytes}
 use Rattle.text.specs.Utf8.{Range, ◌to◌, within, good_len}
 
 -- What a third or a fourth byte may be.
 abbrev pub trail : Range
 trail = 0x80 to 0xBF
 
--- The range that a row of the code's table has at a place, and all its ranges.
-unfoldable pub range_at : Row → ℕ → Range
-range_at row i = get_or (row.0 to row.1 ∷ row.2 to row.3 ∷ []) i trail
+-- The range that the code's `Bytes` are, and those of a row of its table.
+abbrev pub range_of : Bytes → Range
+range_of bytes = bytes.0 to bytes.1
 
-unfoldable pub ranges : Row → List Range
-ranges row = take row.4 (row.0 to row.1 ∷ row.2 to row.3 ∷ replicate (row.4 - 2) trail)
+abbrev pub ranges : List Bytes → List Range
+ranges row = map range_of row
+
+-- The bytes of a row allow the byte of a text beside them.
+abbrev pub allowed : Bytes × ℕ → Bool
+allowed p = within (range_of p.0) p.1
+
+-- The first byte of a row of the code's may be b.
+abbrev pub leads : List Bytes → ℕ → Bool
+leads [] b = false
+leads (bytes ∷ row) b = within (range_of bytes) b
+
+-- The same, of a row that a table points to.
+abbrev pub led_by : ℕ → Bor (List Bytes) → Bool
+led_by b row = leads row.now b
 
 -- The row that a byte starts, or no ranges where there is none.
 unfoldable pub row_for : List (List Range) → ℕ → List Range

@@ -1,118 +1,88 @@
 // UTF-8, checked against the table of its well-formed sequences.
 #![tactic(auto)]
 
-ghost use Rattle.std.specs.Prelude.{◌≡◌, true, cond, [], ◌+◌, ◌-◌, ◌<◌, ◌≤◌, min, max, length, drop, get_or, eqb};
-ghost use Rattle.text.specs.Utf8.{◌to◌, within, rows, agree, seq_len, good_len, best, bad_len, checked};
-ghost use Rattle.text.specs.Steps.{range_at, ranges, row_for, Ascii, Passed};
+ghost use Rattle.std.specs.Prelude.{◌≡◌, true, cond, [], ◌+◌, ◌-◌, ◌<◌, ◌≤◌, max, length, drop, find, take_while, zip, eqb, IfSome, MatchOption};
+ghost use Rattle.std.specs.List.{list_all};
+ghost use Rattle.text.specs.Utf8.{within, rows, agree, seq_len, good_len, best, bad_len, checked};
+ghost use Rattle.text.specs.Steps.{range_of, ranges, allowed, leads, led_by, row_for, Ascii, Passed};
 
-// A row of Table 3-7 of the Unicode Standard: the least and the greatest first byte, the least and
-// the greatest second, where there is one, and how many bytes there are. A third and a fourth are
-// from 0x80 to 0xBF in every row.
+// The bytes from the first to the second.
 #[derive(Clone, Copy)]
-struct Row(u8, u8, u8, u8, usize);
+struct Bytes(u8, u8);
 
-const ROWS: [Row; 9] = [
-    Row(0x00, 0x7F, 0x80, 0xBF, 1),
-    Row(0xC2, 0xDF, 0x80, 0xBF, 2),
-    Row(0xE0, 0xE0, 0xA0, 0xBF, 3),
-    Row(0xE1, 0xEC, 0x80, 0xBF, 3),
-    Row(0xED, 0xED, 0x80, 0x9F, 3),
-    Row(0xEE, 0xEF, 0x80, 0xBF, 3),
-    Row(0xF0, 0xF0, 0x90, 0xBF, 4),
-    Row(0xF1, 0xF3, 0x80, 0xBF, 4),
-    Row(0xF4, 0xF4, 0x80, 0x8F, 4),
+impl Bytes {
+    fn contains(self, b: u8) -> bool
+        ensures { result ≡ within (range_of self) b }
+    {
+        (self.0..=self.1).contains(&b)
+    }
+}
+
+// What a third and a fourth byte may be.
+const TRAIL: Bytes = Bytes(0x80, 0xBF);
+
+// Table 3-7 of the Unicode Standard: a row for each kind of sequence, and in it what each byte may be.
+const ROWS: [&[Bytes]; 9] = [
+    &[Bytes(0x00, 0x7F)],
+    &[Bytes(0xC2, 0xDF), Bytes(0x80, 0xBF)],
+    &[Bytes(0xE0, 0xE0), Bytes(0xA0, 0xBF), TRAIL],
+    &[Bytes(0xE1, 0xEC), Bytes(0x80, 0xBF), TRAIL],
+    &[Bytes(0xED, 0xED), Bytes(0x80, 0x9F), TRAIL],
+    &[Bytes(0xEE, 0xEF), Bytes(0x80, 0xBF), TRAIL],
+    &[Bytes(0xF0, 0xF0), Bytes(0x90, 0xBF), TRAIL, TRAIL],
+    &[Bytes(0xF1, 0xF3), Bytes(0x80, 0xBF), TRAIL, TRAIL],
+    &[Bytes(0xF4, 0xF4), Bytes(0x80, 0x8F), TRAIL, TRAIL],
 ];
-
-// What stands for a row where no row has a byte.
-const NO_ROW: Row = Row(0, 0, 0, 0, 0);
 
 // How many bytes are tested for ASCII at once, and how many where fewer are left.
 const BLOCK: usize = 32;
 
 const WORD: usize = 8;
 
-fn least(a: usize, b: usize) -> usize
-    ensures { result ≡ min a b }
+// Whether a row has `b` as its first byte.
+fn leads(row: &[Bytes], b: u8) -> bool
+    ensures { result ≡ leads row.now b }
 {
-    if a < b { a } else { b }
+    row.first().is_some_and(|bytes| bytes.contains(b))
 }
 
-fn within(low: u8, high: u8, b: u8) -> bool
-    ensures { result ≡ within (low to high) b }
+// The first row of a table that `b` leads.
+fn first_led(table: &[&'static [Bytes]], b: u8) -> Option<&'static [Bytes]>
+    ensures { result ≡ find (led_by b) table.now }
 {
-    low <= b && b <= high
-}
-
-// Whether a row has `b` at its place `i`.
-fn allows(row: Row, i: usize, b: u8) -> bool
-    ensures { result ≡ within (range_at row i) b }
-{
-    if i == 0 {
-        return within(row.0, row.1, b);
-    }
-    if i == 1 {
-        return within(row.2, row.3, b);
-    }
-    within(0x80, 0xBF, b)
-}
-
-fn row_at(k: usize) -> Row
-    requires { k < 9 }
-    ensures { ranges result ≡ get_or rows k [] }
-{
-    ROWS[k]
+    table.iter().copied().find(|row| leads(row, b))
 }
 
 // The row that a text starting with `lead` can agree with.
-fn row_of(lead: u8) -> Row
-    ensures { ranges result ≡ row_for rows lead }
+fn row_of(lead: u8) -> Option<&'static [Bytes]>
+    ensures { MatchOption result (row_for rows lead ≡ []) (λ row. (0 < length row.now) × (ranges row.now ≡ row_for rows lead)) }
 {
-    let mut k = 0;
-    while k < 9 {
-        let row = row_at(k);
-        if allows(row, 0, lead) {
-            return row;
-        }
-        k += 1;
-    }
-    NO_ROW
+    first_led(&ROWS, lead)
 }
 
-// How many bytes of `text`, from `at` on, agree with a row, where the first does.
-fn agreeing(text: &[u8], at: usize, row: Row) -> usize
-    requires at_in_bounds { at < length text.now }
-    requires nonzero { 0 < agree (ranges row) (drop at text.now) }
-    ensures { result ≡ agree (ranges row) (drop at text.now) }
+// How many bytes of `text`, from its first on, agree with a row.
+fn agreeing(row: &[Bytes], text: &[u8]) -> usize
+    ensures { result ≡ length (take_while allowed (zip row.now text.now)) }
 {
-    let n = least(row.4, text.len() - at);
-    let mut i = 1;
-    while i < n {
-        if !allows(row, i, text[at + i]) {
-            return i;
-        }
-        i += 1;
-    }
-    i
+    row.iter()
+        .zip(text)
+        .take_while(|(bytes, b)| bytes.contains(**b))
+        .count()
 }
 
-// The length of the sequence at a place, 0 where none is whole.
-fn sequence(text: &[u8], at: usize) -> usize
-    requires { at < length text.now }
-    ensures { result ≡ seq_len rows (drop at text.now) }
+// The length of the sequence at a place, where a whole one stands there.
+fn sequence(text: &[u8], at: usize) -> Option<usize>
+    ensures { MatchOption result (seq_len rows (drop at text.now) ≡ 0) (λ n. (0 < n) × (at + n ≤ length text.now) × (n ≡ seq_len rows (drop at text.now))) }
 {
-    let lead = text[at];
+    let lead = *text.get(at)?;
     if lead < 0x80 {
-        return 1;
+        return Some(1);
     }
-    let row = row_of(lead);
-    let n = row.4;
-    if n == 0 {
-        return 0;
+    let row = row_of(lead)?;
+    if agreeing(row, &text[at..]) < row.len() {
+        return None;
     }
-    if agreeing(text, at, row) < n {
-        return 0;
-    }
-    n
+    Some(row.len())
 }
 
 // Where the whole sequences from a place on end: at the text's end, or at a bad one.
@@ -121,86 +91,53 @@ fn walk(text: &[u8], from: usize) -> usize
     ensures { result ≡ from + good_len (drop from text.now) }
 {
     let mut at = from;
-    while at < text.len() {
-        let n = sequence(text, at);
-        if n == 0 {
-            return at;
-        }
+    while let Some(n) = sequence(text, at) {
         at += n;
     }
     at
 }
 
-// Whether the first two bytes at a place agree with row k, which has as many at least. Four bytes are
-// there, so that no test asks for the end; where k is a constant, the bounds are constants too.
-fn two_agree(text: &[u8], at: usize, k: usize) -> bool
-    requires at_in_bounds { (at + 4 ≤ length text.now) × (k < 9) }
-    requires in_bounds { 2 ≤ length (get_or rows k []) }
-    ensures { result ≡ true → 2 ≤ agree (get_or rows k []) (drop at text.now) }
+// Whether all of a row agrees with `text`. Where the row is a constant, its bounds are constants too.
+fn agrees(row: &[Bytes], text: &[u8]) -> bool
+    requires { length row.now ≤ length text.now }
+    ensures { result ≡ list_all allowed (zip row.now text.now) }
 {
-    let row = row_at(k);
-    if !allows(row, 0, text[at]) {
-        return false;
-    }
-    allows(row, 1, text[at + 1])
+    row.iter().zip(text).all(|(bytes, b)| bytes.contains(*b))
 }
 
-fn three_agree(text: &[u8], at: usize, k: usize) -> bool
-    requires at_in_bounds { (at + 4 ≤ length text.now) × (k < 9) }
-    requires in_bounds { 3 ≤ length (get_or rows k []) }
-    ensures { result ≡ true → 3 ≤ agree (get_or rows k []) (drop at text.now) }
+// The length of the sequence that `four` begins with, where there is a whole one. The rows of many first bytes come before those of one.
+fn whole(four: &[u8]) -> Option<usize>
+    requires { length four.now ≡ 4 }
+    ensures { IfSome result (λ n. (0 < n) × (n ≤ 4) × (n ≡ seq_len rows four.now)) }
 {
-    if !two_agree(text, at, k) {
-        return false;
+    if four[0] < 0x80 {
+        return Some(1);
     }
-    allows(row_at(k), 2, text[at + 2])
-}
-
-fn four_agree(text: &[u8], at: usize, k: usize) -> bool
-    requires at_in_bounds { (at + 4 ≤ length text.now) × (k < 9) }
-    requires in_bounds { 4 ≤ length (get_or rows k []) }
-    ensures { result ≡ true → 4 ≤ agree (get_or rows k []) (drop at text.now) }
-{
-    if !three_agree(text, at, k) {
-        return false;
+    if agrees(ROWS[1], four) {
+        return Some(2);
     }
-    allows(row_at(k), 3, text[at + 3])
-}
-
-// The length of the sequence at a place that four bytes stand at, 0 where none is whole. The rows of
-// many first bytes come before those of one.
-fn whole_at(text: &[u8], at: usize) -> usize
-    requires { at + 4 ≤ length text.now }
-    ensures { Passed text.now at (at + result) }
-{
-    if text[at] < 0x80 {
-        return 1;
+    if agrees(ROWS[3], four) {
+        return Some(3);
     }
-    if two_agree(text, at, 1) {
-        return 2;
+    if agrees(ROWS[5], four) {
+        return Some(3);
     }
-    if three_agree(text, at, 3) {
-        return 3;
+    if agrees(ROWS[7], four) {
+        return Some(4);
     }
-    if three_agree(text, at, 5) {
-        return 3;
+    if agrees(ROWS[2], four) {
+        return Some(3);
     }
-    if four_agree(text, at, 7) {
-        return 4;
+    if agrees(ROWS[4], four) {
+        return Some(3);
     }
-    if three_agree(text, at, 2) {
-        return 3;
+    if agrees(ROWS[6], four) {
+        return Some(4);
     }
-    if three_agree(text, at, 4) {
-        return 3;
+    if agrees(ROWS[8], four) {
+        return Some(4);
     }
-    if four_agree(text, at, 6) {
-        return 4;
-    }
-    if four_agree(text, at, 8) {
-        return 4;
-    }
-    0
+    None
 }
 
 // Passes whole sequences as far as `end`, and stops before the text's last three bytes.
@@ -208,16 +145,15 @@ fn stride(text: &[u8], from: usize, end: usize) -> usize
     requires { from ≤ length text.now }
     ensures { Passed text.now from result }
 {
+    let Some(before_last) = text.len().checked_sub(3) else {
+        return from;
+    };
+    let last = end.min(before_last);
     let mut at = from;
-    if text.len() < 4 {
-        return at;
-    }
-    let last = least(end, text.len() - 3);
     while at < last {
-        let n = whole_at(text, at);
-        if n == 0 {
+        let Some(n) = whole(&text[at..at + 4]) else {
             return at;
-        }
+        };
         at += n;
     }
     at
@@ -231,13 +167,7 @@ fn ascii_at(text: &[u8], at: usize, width: usize) -> bool
     if text.len() < at + width {
         return false;
     }
-    let mut bits: u8 = 0;
-    let mut i = 0;
-    while i < width {
-        bits = bits | text[at + i];
-        i += 1;
-    }
-    bits < 0x80
+    text[at..at + width].iter().fold(0, |bits, b| bits | *b) < 0x80
 }
 
 // Passes blocks of ASCII.
@@ -262,10 +192,7 @@ fn ascii_rest(text: &[u8], from: usize) -> bool
         return false;
     }
     let at = text.len() - WORD;
-    if from < at {
-        return false;
-    }
-    ascii_at(text, at, WORD)
+    from >= at && ascii_at(text, at, WORD)
 }
 
 // The same, faster. As many bytes as a block has are passed by their sequences before ASCII is tried again, so
@@ -277,7 +204,7 @@ fn scan_from(text: &[u8], from: usize) -> usize
     let n = text.len();
     let mut at = from;
     while at < n {
-        let end = least(at + BLOCK, n);
+        let end = n.min(at + BLOCK);
         at = stride(text, at, end);
         if at < end {
             return walk(text, at);
@@ -323,27 +250,20 @@ fn bad_of(most: usize, left: usize) -> usize
     if most == left {
         return 0;
     }
-    if most == 0 {
-        return 1;
-    }
-    most
+    most.max(1)
 }
 
-// How many bytes from a place on begin a sequence. It has a search for the row of its own: a function with one
-// caller is compiled into it, and so a good text doesn't pay for this one.
-fn begun(text: &[u8], at: usize) -> usize
-    requires { at < length text.now }
-    ensures { result ≡ best rows (drop at text.now) }
+// How many bytes of `text` begin a sequence.
+fn begun(text: &[u8]) -> usize
+    ensures { result ≡ best rows text.now }
 {
-    let mut k = 0;
-    while k < 9 {
-        let row = row_at(k);
-        if allows(row, 0, text[at]) {
-            return agreeing(text, at, row);
-        }
-        k += 1;
-    }
-    0
+    let Some(lead) = text.first() else {
+        return 0;
+    };
+    let Some(row) = row_of(*lead) else {
+        return 0;
+    };
+    agreeing(row, text)
 }
 
 // How many bytes of `text` are bad behind its good beginning: none where nothing follows that, or where more bytes
@@ -354,7 +274,7 @@ pub fn bad_length(text: &[u8], good: usize) -> usize
     if text.len() <= good {
         return bad_of(0, 0);
     }
-    bad_of(begun(text, good), text.len() - good)
+    bad_of(begun(&text[good..]), text.len() - good)
 }
 
 // What is good of a text, and how many bytes after that are bad: none where the text is good, or

@@ -1,20 +1,13 @@
 use mathlib.Core.Path.{◌≡◌}
 use Prim.Native.Nat.{◌+◌, ◌-◌}
 use native.Mathlib.Omega.{arith}
-use mathlib.Core.Bool.{false≢true}
 use lib.ListN.{length}
 use Rattle.text.specs.Steps.{Ascii}
 use Rattle.text.proofs.Laws.{passed_run}
 use Rattle.text.proofs.ascii_rest.Goals as goal
 
-pub returns-then-text-lt-WORD : goal.returns-then-text-lt-WORD
-returns-then-text-lt-WORD c e = absurd (false≢true e)
-
 pub returns-then-from-at : goal.returns-then-from-at
-returns-then-from-at c e = absurd (false≢true e)
-
-pub returns : goal.returns
-returns c e =
+returns-then-from-at c = λ e.
     let o = c.before in
     let a = o.args in
     let end : length a.text.now - 8 + 8 ≡ length a.text.now = omega arith in

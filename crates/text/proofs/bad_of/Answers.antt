@@ -5,8 +5,5 @@ use Rattle.text.proofs.bad_of.Goals as goal
 pub returns-then-most-left : goal.returns-then-most-left
 returns-then-most-left c = rw (eq-eqb _ _ c.if-most-left.true)
 
-pub returns-then-most-eq0 : goal.returns-then-most-eq0
-returns-then-most-eq0 c = rw (ne_eqb _ _ c.if-most-left.false) (omega arith)
-
 pub returns : goal.returns
 returns c = rw (ne_eqb _ _ c.if-most-left.false) (omega arith)

@@ -1,15 +1,16 @@
-use borrow.Author.Rules.{rules}
-use Rattle.text.proofs.Table.{row_full, row_found, row_passed, lead_agrees, begun_row, begun_none}
+use mathlib.Core.Path.{sym}
+use Rattle.text.proofs.Table.{first_is, nothing_begun, none_begun, begun_row}
 use Rattle.text.proofs.begun.Goals as goal
 
-pub agreeing-requires : goal.agreeing-requires
-agreeing-requires c = record { at_in_bounds = search rules; nonzero = search (lead_agrees, row_found, row_full) }
+pub returns-in_default : goal.returns-in_default
+returns-in_default c = sym (nothing_begun c.args.text.now c.in_default.ensures.value).1
 
-pub returns-then-allows : goal.returns-then-allows
-returns-then-allows c = search (begun_row, row_found)
-
-pub loop-k-preserved : goal.loop-k-preserved
-loop-k-preserved c = (search rules, search row_passed)
+pub returns-in_default-row_of : goal.returns-in_default-row_of
+returns-in_default-row_of c =
+    let first = first_is c.args.text.now c.in-Some.lead.now c.in-Some.ensures.value in
+    sym (none_begun c.args.text.now (rw first.1 c.in_default-row_of.ensures)).1
 
 pub returns : goal.returns
-returns c = search begun_none
+returns c =
+    let first = first_is c.args.text.now c.in-Some.lead.now c.in-Some.ensures.value in
+    begun_row c.args.text.now c.in-Some-row_of.row.now (rw first.1 c.in-Some-row_of.ensures.1) c.agreeing.result c.agreeing.ensures
