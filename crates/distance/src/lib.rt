@@ -7,6 +7,7 @@ ghost use Rattle.distance.specs.Distance.{distance};
 use answer::Answer;
 use types::SequenceNumber;
 
+// What a distance answers. The definition has the value 0 beside a refusal, so it is no `Result`.
 #[derive(Clone, Copy)]
 pub struct Distance {
     pub answer: Answer,
@@ -20,19 +21,13 @@ const CIRCLE: u32 = SequenceNumber::MAX + 1;
 pub fn signed_distance(from: u32, to: u32) -> Distance
     ensures { result ≡ distance from to }
 {
-    if SequenceNumber::MAX < from {
+    if SequenceNumber::MAX < from || SequenceNumber::MAX < to {
         return Distance {
             answer: Answer::NoSequenceNumber,
             value: 0,
         };
     }
-    if SequenceNumber::MAX < to {
-        return Distance {
-            answer: Answer::NoSequenceNumber,
-            value: 0,
-        };
-    }
-    let forward = std::num::wrapping_sub_u32(to, from) % CIRCLE;
+    let forward = to.wrapping_sub(from) % CIRCLE;
     let value = forward as i32;
     if forward < CIRCLE / 2 {
         return Distance {
@@ -40,9 +35,8 @@ pub fn signed_distance(from: u32, to: u32) -> Distance
             value,
         };
     }
-    let back = value - CIRCLE as i32;
     Distance {
         answer: Answer::Done,
-        value: back,
+        value: value - CIRCLE as i32,
     }
 }

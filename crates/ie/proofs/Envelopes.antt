@@ -10,12 +10,12 @@ use lib.Seq.{drop-cons}
 use native.Mathlib.Numerals.{add-one}
 use borrow.Author.Tests.{le-leb, lt-leb, leb-true}
 use Rattle.answer.specs.declared.Answer.{Answer}
+use Rattle.answer.specs.declared.Read.{Read}
 use Rattle.answer.specs.declared.Answer.TheVariants.{Done, Short, InputTooLong, ZeroLength}
 use Rattle.octets.specs.Octets.{pick, if_set, behind}
 use Rattle.ie.specs.Ie.{pair_at, type_of, length_of, is_vendor, extra, listed, envelope, record_of, refused, found, read}
 use Rattle.ie.specs.Steps.{IsWhole}
 use Rattle.ie.specs.declared.Ie.{Ie}
-use Rattle.ie.specs.declared.IeRead.{IeRead}
 use Rattle.std.specs.Prelude.{Some, None, Result, Ok, Err}
 
 -- the number of two bytes
@@ -105,12 +105,12 @@ record_ends s w = omega (arith, w.1)
 -- ---- the public call for one
 
 module _ (zs s : List ℕ) where
-  pub too_long : {r : IeRead} → r ≡ refused (InputTooLong (length s)) → 65535 < length s → r ≡ read zs s
+  pub too_long : {r : Read Ie} → r ≡ refused (InputTooLong (length s)) → 65535 < length s → r ≡ read zs s
   unfolding read
   too_long q h = rw (lt-leb _ _ h) q
 
   module _ (small : length s ≤ 65535) {o : Result ℕ Answer} (p : o ≡ envelope zs s) where
-    pub refused_one : {a : Answer} {r : IeRead} → o ≡ Err a → r ≡ refused a → r ≡ read zs s
+    pub refused_one : {a : Answer} {r : Read Ie} → o ≡ Err a → r ≡ refused a → r ≡ read zs s
     unfolding read found
     refused_one q e = let z = sym p ∙ q in rw (le-leb _ _ small, z) e
 
@@ -120,25 +120,25 @@ module _ (zs s : List ℕ) where
 
 -- ---- the record of a whole IE
 
-module _ (s : List ℕ) (w : IsWhole s) {t n : ℕ} (a : t ≡ type_of s) (b : n ≡ length_of s) {v : Bool} (d : v ≡ is_vendor t) where
+module _ (s : List ℕ) (w : IsWhole s) {t : ℕ} (a : t ≡ type_of s) {v : Bool} (d : v ≡ is_vendor t) where
   v_is : is_vendor (type_of s) ≡ v
   v_is = ap is_vendor (sym a) ∙ sym d
 
-  module _ (e : v ≡ true) where
-    two_more : extra (type_of s) ≡ 2
-    unfolding if_set
-    two_more = rw (v_is, e)
+  two_more : v ≡ true → extra (type_of s) ≡ 2
+  unfolding if_set
+  two_more e = rw (v_is, e)
 
-    pub number_there : 6 ≤ length s
-    number_there = omega (arith, w.0, two_more)
+  pub number_there : v ≡ true → 6 ≤ length s
+  number_there e = omega (arith, w.0, two_more e)
 
-    pub counts_it : 2 ≤ n
-    counts_it = omega (arith, w.1, two_more, b)
+module _ (s : List ℕ) (w : IsWhole s) {t n : ℕ} (a : t ≡ type_of s) (b : n ≡ length_of s) {v : Bool} (d : v ≡ is_vendor t) where
+  pub counts_it : v ≡ true → 2 ≤ n
+  counts_it e = omega (arith, w.1, two_more s w a d e, b)
 
-    pub vendor_record : {x : ℕ} → x ≡ pair_at s 4 → record { raw_type = t; enterprise_id = Some x; place = 6; len = n - 2 } ≡ record_of s
-    unfolding record_of if_set
-    vendor_record q = rw (v_is, e, ← a, ← b, ← q)
+  pub vendor_record : v ≡ true → {x : ℕ} → x ≡ pair_at s 4 → record { raw_type = t; enterprise_id = Some x; place = 6; len = n - 2 } ≡ record_of s
+  unfolding record_of if_set
+  vendor_record e q = rw (v_is s w a d, e, ← a, ← b, ← q)
 
   pub other_record : v ≡ false → record { raw_type = t; enterprise_id = None; place = 4; len = n } ≡ record_of s
   unfolding record_of if_set
-  other_record e = let z : n - 0 ≡ n = omega arith in rw (v_is, e, ← a, ← b, z)
+  other_record e = let z : n - 0 ≡ n = omega arith in rw (v_is s w a d, e, ← a, ← b, z)

@@ -2,10 +2,10 @@
 use Rattle.std.specs.Prelude.{ℕ, zero, suc, ◌+◌, ◌-◌, Bool, not, ◌||◌, List, [], ◌∷◌, ◌++◌, leb, eqb, length, drop, Option, Some, None, Result, Ok, Err}
 use Rattle.std.specs.List.{list_any}
 use Rattle.answer.specs.declared.Answer.{Answer}
+use Rattle.answer.specs.declared.Read.{Read}
 use Rattle.answer.specs.declared.Answer.TheVariants.{Done, Short, InputTooLong, NoRoom, ZeroLength}
 use Rattle.octets.specs.Octets.{pick, bit, if_set, field, big_endian}
 use Rattle.ie.specs.declared.Ie.{Ie}
-use Rattle.ie.specs.declared.IeRead.{IeRead}
 use Rattle.ie.specs.declared.IesRead.{IesRead}
 
 -- ---- one IE
@@ -59,15 +59,15 @@ record_of s =
     record { raw_type = t; enterprise_id = pick (is_vendor t) (Some (pair_at s 4)) None; place = 4 + extra t; len = length_of s - extra t }
 
 -- a refused read: the empty record and used 0
-unfoldable pub refused : Answer → IeRead
+unfoldable pub refused : Answer → Read Ie
 refused a = record { answer = a; used = 0; «record» = record { raw_type = 0; enterprise_id = None; place = 0; len = 0 } }
 
-unfoldable pub found : List ℕ → Result ℕ Answer → IeRead
+unfoldable pub found : List ℕ → Result ℕ Answer → Read Ie
 found s (Ok end) = record { answer = Done; used = end; «record» = record_of s }
 found s (Err a) = refused a
 
 -- what reading the IE at the front gives
-unfoldable pub read : List ℕ → List ℕ → IeRead
+unfoldable pub read : List ℕ → List ℕ → Read Ie
 read zs s = pick (leb (length s) 65535) (found s (envelope zs s)) (refused (InputTooLong (length s)))
 
 -- ---- all IEs

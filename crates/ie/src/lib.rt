@@ -2,10 +2,10 @@
 #![tactic(auto)]
 
 ghost use Rattle.std.specs.Prelude.{◌≡◌, ℕ, List, not, ◌||◌, ◌+◌, ◌≤◌, ◌<◌, eqb, length, MatchResult};
-ghost use Rattle.ie.specs.Ie.{pair_at, is_vendor, listed, record_of, refused, read, envelope, row_of, ies, ours, refused_at, read_all, all, tabled};
+ghost use Rattle.ie.specs.Ie.{pair_at, is_vendor, listed, record_of, read, envelope, row_of, ies, ours, refused_at, read_all, all, tabled};
 ghost use Rattle.ie.specs.Steps.{IsWhole, counted, HasRows};
 
-use answer::Answer;
+use answer::{Answer, Read};
 
 // An IE: its raw type and enterprise number, and the place, from the IE's start on, and length of its payload.
 #[derive(Clone, Copy)]
@@ -16,18 +16,11 @@ pub struct Ie {
     pub len: usize,
 }
 
-// What reading one IE answers: used is where it ends. The record is empty where it is refused.
-#[derive(Clone, Copy)]
-pub struct IeRead {
-    pub answer: Answer,
-    pub used: usize,
-    pub record: Ie,
-}
-
 // A row of the table: raw type, enterprise number, place, from the body's start on, and length of the payload.
 pub type Row = [u32; 4];
 
-// What reading all IEs of a body answers: how many rows there are, and the place of the guilty IE where it is refused.
+// What reading all IEs of a body answers: how many rows there are, and the place of the guilty IE where it is refused. K3 gives every
+// answer both, 0 where there are none, so it is no `Result`.
 #[derive(Clone, Copy)]
 pub struct IesRead {
     pub answer: Answer,
@@ -40,22 +33,6 @@ pub struct IesRead {
 struct Guilty {
     place: usize,
     answer: Answer,
-}
-
-// A refused read of one IE.
-fn refused(answer: Answer) -> IeRead
-    ensures { result ≡ refused answer }
-{
-    IeRead {
-        answer,
-        used: 0,
-        record: Ie {
-            raw_type: 0,
-            enterprise_id: None,
-            place: 0,
-            len: 0,
-        },
-    }
 }
 
 // A refused read of a body.
@@ -153,6 +130,7 @@ fn count(body: &[u8], zero_types: &[u16]) -> Result<usize, Guilty>
 {
     let mut place = 0;
     let mut rows = 0;
+    // No range counts these turns: the bytes at a place say where the next IE begins.
     while place < body.len() {
         let end = end_of(&body[place..], zero_types).map_err(|answer| Guilty { place, answer })?;
         place += end;
@@ -182,6 +160,14 @@ impl Ie {
     // The types that may have length zero in the published Rust.
     pub const ZERO_TYPES: [u16; 3] = [22, 41, 159];
 
+    // The record of a refused read.
+    const EMPTY: Ie = Ie {
+        raw_type: 0,
+        enterprise_id: None,
+        place: 0,
+        len: 0,
+    };
+
     // The row of an IE at a place.
     fn row(self, at: usize) -> Row
         requires place_bound { at + self.place < 4294967296 }
@@ -197,16 +183,16 @@ impl Ie {
     }
 
     // The IE at the front of a slice.
-    pub fn unmarshal(s: &[u8], zero_types: &[u16]) -> IeRead
+    pub fn unmarshal(s: &[u8], zero_types: &[u16]) -> Read<Ie>
         ensures { result ≡ read zero_types.now s.now }
     {
         let n = s.len();
         if 65535 < n {
-            return refused(Answer::InputTooLong { length: n });
+            return Read::refused(Answer::InputTooLong { length: n }, Ie::EMPTY);
         }
         match end_of(s, zero_types) {
-            Err(answer) => refused(answer),
-            Ok(end) => IeRead {
+            Err(answer) => Read::refused(answer, Ie::EMPTY),
+            Ok(end) => Read {
                 answer: Answer::Done,
                 used: end,
                 record: record_of(s),
@@ -244,7 +230,6 @@ impl Ie {
         ensures value { result ≡ read_all ours body.now (length table.old) }
         ensures table_after { table.new ≡ tabled ours body.now table.old }
     {
-        let types = Ie::ZERO_TYPES;
-        Ie::unmarshal_all(body, &types, table)
+        Ie::unmarshal_all(body, &Ie::ZERO_TYPES, table)
     }
 }
