@@ -15,8 +15,10 @@ returns-then-n-end c = let all = refusal _ _ _ (c.put_short-then-n-end.ensures.v
 
 pub returns : goal.returns
 returns c =
-    let r = c.requires in let all = accepted _ _ c.put_image.ensures
-    (whole _ r.payload_len_bound r.in_bounds r.payload_value _ _ r.v4_value c.if_set-end4.ensures.value _ _ r.v6_value c.if_set.ensures.value _ _ r.ipv6d_value c.if_set-2.ensures.value _ _ r.ip6pl_value c.if_set-3.ensures.value
+    let r = c.requires in
+    let p = c.args.payload in
+    let all = accepted _ _ c.put_image.ensures
+    (whole _ p.len_bound p.in_bounds r.unbroken _ _ r.v4_value c.if_set-end4.ensures.value _ _ r.v6_value c.if_set.ensures.value _ _ r.ipv6d_value c.if_set-2.ensures.value _ _ r.ip6pl_value c.if_set-3.ensures.value
     _ _ _ _ _ _ _ _ _ _ _ c.if-n-end.false
     c.address.ensures (add-sub_cancel_left _ _) c.address-2.ensures (add-sub_cancel_left _ _)
     c.bit.ensures c.bit-2.ensures c.bit-3.ensures
