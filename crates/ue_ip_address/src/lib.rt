@@ -173,8 +173,6 @@ impl UeIpAddress {
                 actual: n,
             });
         }
-        let ipv4_address = octets::address::<4>(&payload[1..end4]);
-        let ipv6_address = octets::address::<16>(&payload[end4..end6]);
         Read {
             answer: Answer::Done,
             used: end,
@@ -186,8 +184,8 @@ impl UeIpAddress {
                 choose_ipv4: octets::bit(flags, 4),
                 choose_ipv6: octets::bit(flags, 5),
                 ipv6_prefix_length_present: ip6pl,
-                ipv4_address,
-                ipv6_address,
+                ipv4_address: octets::address(&payload[1..end4]),
+                ipv6_address: octets::address(&payload[end4..end6]),
                 ipv6_prefix_delegation_bits: octets::u8_of(&payload[end6..end_bits]),
                 ipv6_prefix_length: octets::u8_of(&payload[end_bits..end]),
             },

@@ -5,4 +5,4 @@ use Rattle.header.proofs.refused.Goals as goal
 
 pub returns : goal.returns
 unfolding refused
-returns c = refl
+returns c = rw c.new.ensures at c.refused.ensures

@@ -32,6 +32,6 @@ returns c =
     _ _ c.bit-ipv6d.ensures c.if_set-2.ensures.value
     _ _ c.bit-ip6pl.ensures c.if_set-3.ensures.value
     _ _ _ _ _ _ _ _ _ _ _ c.if-n-end.false
-    c.address-ipv4_address.ensures (add-sub_cancel_left _ _) c.address-ipv6_address.ensures (add-sub_cancel_left _ _)
+    c.address.ensures (add-sub_cancel_left _ _) c.address-2.ensures (add-sub_cancel_left _ _)
     c.bit.ensures c.bit-2.ensures c.bit-3.ensures
     c.u8_of.ensures (add-sub_cancel_left _ _) c.u8_of-2.ensures (add-sub_cancel_left _ _)
