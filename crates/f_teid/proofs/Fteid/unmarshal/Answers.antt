@@ -11,10 +11,10 @@ pub returns-then-n-lt-MIN_LEN : goal.returns-then-n-lt-MIN_LEN
 returns-then-n-lt-MIN_LEN c = search no_flags
 
 pub read_chosen-requires : goal.read_chosen-requires
-read_chosen-requires c = record { payload_nonzero = search rules; payload_len_bound = search rules; payload_value = search flag_is }
+read_chosen-requires c = record { payload_nonzero = search rules; payload_len_bound = search rules; ch_set = search flag_is }
 
 pub returns-then-bit-2 : goal.returns-then-bit-2
 returns-then-bit-2 c = search forbidden
 
 pub read_concrete-requires : goal.read_concrete-requires
-read_concrete-requires c = record { payload_nonzero = search rules; payload_len_bound = search rules; payload_value = search flag_is; payload_value_2 = search flag_is }
+read_concrete-requires c = record { payload_nonzero = search rules; payload_len_bound = search rules; no_ch = search flag_is; no_chid = search flag_is }
