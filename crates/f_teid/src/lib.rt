@@ -55,7 +55,7 @@ fn refused(answer: Answer) -> Read<Fteid>
 fn read_chosen(payload: &[u8]) -> Read<Fteid>
     requires payload_nonzero { 0 < length payload.now }
     requires payload_len_bound { length payload.now ≤ 65535 }
-    requires payload_value { bit 2 (get_or payload.now 0 0) ≡ true }
+    requires ch_set { bit 2 (get_or payload.now 0 0) ≡ true }
     ensures { result ≡ read payload.now }
 {
     let n = payload.len();
@@ -92,8 +92,8 @@ fn read_chosen(payload: &[u8]) -> Read<Fteid>
 fn read_concrete(payload: &[u8]) -> Read<Fteid>
     requires payload_nonzero { 0 < length payload.now }
     requires payload_len_bound { length payload.now ≤ 65535 }
-    requires payload_value { bit 2 (get_or payload.now 0 0) ≡ false }
-    requires payload_value_2 { bit 3 (get_or payload.now 0 0) ≡ false }
+    requires no_ch { bit 2 (get_or payload.now 0 0) ≡ false }
+    requires no_chid { bit 3 (get_or payload.now 0 0) ≡ false }
     ensures { result ≡ read payload.now }
 {
     let n = payload.len();

@@ -90,27 +90,6 @@ fn read_concrete(payload: &[u8], image: &mut [u8], v4: bool, v6: bool) -> u64
     0
 }
 
-// Reads a payload that has its flags and its SEID into an image.
-fn read_addresses(payload: &[u8], image: &mut [u8]) -> u64
-    requires in_bounds { 9 ≤ length payload.now }
-    requires payload_len_bound { length payload.now ≤ 65535 }
-    ensures value { result ≡ number_of (read payload.now).answer }
-    ensures image_after { image.new ≡ put image.old 0 (image_of (read payload.now)) }
-{
-    let flags = payload[0];
-    let v6 = octets::bit(flags, 0);
-    if octets::bit(flags, 1) {
-        if v6 {
-            return read_concrete(payload, image, true, true);
-        }
-        return read_concrete(payload, image, true, false);
-    }
-    if v6 {
-        return read_concrete(payload, image, false, true);
-    }
-    read_concrete(payload, image, false, false)
-}
-
 // The record that stands in an image.
 fn record_at(image: &[u8]) -> Fseid
     ensures { result ≡ record_at image.now }
@@ -143,7 +122,18 @@ pub fn read(payload: &[u8], image: &mut [u8]) -> u64
     if n < Fseid::MIN_LEN {
         return image::put_short(image, SIZE, 0, Fseid::MIN_LEN, n);
     }
-    read_addresses(payload, image)
+    let flags = payload[0];
+    let v6 = octets::bit(flags, 0);
+    if octets::bit(flags, 1) {
+        if v6 {
+            return read_concrete(payload, image, true, true);
+        }
+        return read_concrete(payload, image, true, false);
+    }
+    if v6 {
+        return read_concrete(payload, image, false, true);
+    }
+    read_concrete(payload, image, false, false)
 }
 
 pub fn write(image: &[u8], out: &mut [u8], report: &mut [u8]) -> u64

@@ -1,6 +1,6 @@
 -- `f_teid_image::read` meets its contract: at each return, the tests that led there and what the calls handed over.
 use borrow.Author.Rules.{rules}
-use Rattle.octets.proofs.Laws.{flag_of, flag_is}
+use Rattle.octets.proofs.Laws.{flag_is}
 use Rattle.f_teid.proofs.Returns.{too_long, no_flags, forbidden, no_teid_law}
 use Rattle.image.proofs.Laws.{read_short, read_long}
 use Rattle.f_teid_image.proofs.Reading.{refusal}
@@ -26,12 +26,6 @@ returns-then-chid-2 c = let all = read_long _ _ _ (search rules) (refusal _ _ _ 
 
 pub returns-then-n-lt-TEID_END : goal.returns-then-n-lt-TEID_END
 returns-then-n-lt-TEID_END c = let all = read_long _ _ _ (search rules) (refusal _ _ _ (c.put_short-then-n-lt-TEID_END.ensures.value, c.put_short-then-n-lt-TEID_END.ensures.out_after) (search (no_teid_law, flag_is))) in record { value = all.0; image_after = all.1 }
-
-pub read_chosen-requires : goal.read_chosen-requires
-read_chosen-requires c = record { payload_nonzero = search rules; payload_len_bound = search rules; ch_set = search flag_is; chid_value = search flag_of }
-
-pub read_concrete-requires : goal.read_concrete-requires
-read_concrete-requires c = record { in_bounds = search rules; payload_len_bound = search rules; no_ch = search flag_is; no_chid = search flag_is; v4_value = search flag_of; v6_value = search flag_of }
 
 pub returns-then-v6 : goal.returns-then-v6
 returns-then-v6 c = let all = read_long _ _ _ (search rules) (c.read_concrete.ensures.value, c.read_concrete.ensures.image_after) in record { value = all.0; image_after = all.1 }
