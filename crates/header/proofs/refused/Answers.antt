@@ -1,5 +1,4 @@
 -- `header::refused` meets its contract.
-use mathlib.Core.Path.{refl}
 use Rattle.header.specs.Header.{refused}
 use Rattle.header.proofs.refused.Goals as goal
 
