@@ -9,11 +9,15 @@ use lib.ListN.{length, get_or, drop, take, length-drop}
 use lib.Seq.{take_all}
 use lib.Bits.{bit_and}
 use borrow.Author.Tests.{le-leb, lt-leb, eq-eqb, ne_eqb}
-use Rattle.std.specs.Prelude.{Result, Ok, Err, IsErrAnd}
+use Rattle.std.specs.Prelude.{Option, Some, None, Result, Ok, Err, IsErrAnd}
+use Rattle.std.specs.Option.{ok_or}
+use Rattle.std.proofs.Common.{inl, inr, min}
+use Rattle.std.proofs.lemmas.Bool.{cases_lt}
+use Rattle.std.proofs.lemmas.List.{length-take}
 use Rattle.answer.specs.declared.Answer.{Answer}
 use Rattle.answer.specs.declared.Answer.TheVariants.{Short, NodeType, NotUtf8, InputTooLong}
 use Rattle.answer.specs.declared.Read.{Read}
-use Rattle.octets.specs.Octets.{pick, field}
+use Rattle.octets.specs.Octets.{pick, field, address_of}
 use Rattle.text.specs.Utf8.{good_len, bad_len, checked}
 use Rattle.texts.specs.declared.Text.{Text}
 use Rattle.kind.specs.Layout.{clear}
@@ -54,6 +58,26 @@ module _ (s : List ℕ) (number width : ℕ) (make : List ℕ → NodeId) where
       by : (t : Bool) (b : List ℕ) (e : Answer) {a : Answer} → Err a ≡ pick t (Ok b) (Err e) → refused a ≡ pick t (accepted (suc width) (make b)) (refused e)
       by true b e q = cc
       by false b e q = cc
+
+-- the part behind the type is an address where it has as many bytes
+pub address_part : (number width : ℕ) (s : List ℕ) → 0 < length s → ok_or (address_of width (take width (drop 1 s))) (Short number (1 + width) (length s)) ≡ address_behind number width s
+unfolding address_of address_behind
+address_part number width s g =
+    let one : 1 + width ≡ suc width = omega arith in
+    let d : length (drop 1 s) ≡ length s - 1 = length-drop 1 s in
+    let t : length (take width (drop 1 s)) ≡ min width (length (drop 1 s)) = length-take width (drop 1 s) in
+    elim (cases_lt width (length s)) [
+      | inl h ↦ rw (eq-eqb (length (take width (drop 1 s))) width (omega arith), le-leb (suc width) (length s) (omega arith))
+      | inr h ↦ rw (one, ne_eqb (length (take width (drop 1 s))) width (λ e. omega arith), lt-leb (suc width) (length s) (omega arith))
+    ]
+
+-- what the part gave
+module _ (s : List ℕ) (number width : ℕ) (make : List ℕ → NodeId) (h : 0 < length s) where
+  pub found_part : {a : List ℕ} → Some a ≡ address_of width (take width (drop 1 s)) → accepted (suc width) (make a) ≡ read_address number width make s
+  found_part q = found_address s number width make (ap (λ (o : Option (List ℕ)). ok_or o (Short number (1 + width) (length s))) q ∙ address_part number width s h)
+
+  pub lost_part : None ≡ address_of width (take width (drop 1 s)) → refused (Short number (1 + width) (length s)) ≡ read_address number width make s
+  lost_part q = lost_address s number width make (ap (λ (o : Option (List ℕ)). ok_or o (Short number (1 + width) (length s))) q ∙ address_part number width s h)
 
 -- ---- a name, of which g bytes are well formed
 module _ (s : List ℕ) (h : 0 < length s) (g : ℕ) (e : g ≡ good_len (take (length s - 1) (drop 1 s))) where
