@@ -20,7 +20,7 @@ use Rattle.octets.specs.declared.MaybeIpv4.{MaybeIpv4}
 use Rattle.octets.specs.declared.MaybeIpv6.{MaybeIpv6}
 use Rattle.octets.specs.declared.MaybeU16.{MaybeU16}
 use Rattle.octets.specs.declared.MaybeU32.{MaybeU32}
-use Rattle.octets.specs.Octets.{pick, bit, if_set, flag_byte, Bytes, field, big_endian, is_number, address_of, u16_of, u32_of, ipv4_of, ipv6_of, over, put}
+use Rattle.octets.specs.Octets.{pick, bit, if_set, flag_byte, Bytes, field, big_endian, is_number, address_of, number_of, u16_of, u32_of, ipv4_of, ipv6_of, over, put}
 use Rattle.octets.proofs.Laws.{bytes_take, bytes_drop, big_endian_less_law, number_below, number_fits, ipv4_octets, ipv6_octets, put_fits}
 use Rattle.std.specs.Prelude.{Option, Some, None, is_some, unwrap_or}
 use Rattle.image.specs.Image.{address_bytes, little_endian_bytes, little_endian, number_at, bytes_or_zeros, head, read_image}
@@ -74,6 +74,15 @@ module _ (bs : List ℕ) (b : Bytes bs) where
   pub u32_below : (u32_of bs).value < 256 ^ 4
   unfolding u32_of
   u32_below = below (λ (x : MaybeU32). x.value) _ _ 4 refl refl (omega arith) (is_number 4 bs) refl
+
+-- and 0 where they are absent
+pub number_below_law : (w : ℕ) (bs : List ℕ) → Bytes bs → 0 < 256 ^ w → unwrap_or (number_of w bs) 0 < 256 ^ w
+unfolding number_of
+number_below_law w bs b h = go (is_number w bs) refl
+  where
+    go : (t : Bool) → t ≡ is_number w bs → unwrap_or (pick t (Some (big_endian bs)) None) 0 < 256 ^ w
+    go true e = number_fits w bs true e refl _ (big_endian_less_law bs b)
+    go false e = h
 
 -- ---- bytes that stand at a place, whatever is behind them
 pub record Stands (m : List ℕ) (at : ℕ) (bytes : List ℕ) : Type 0 where

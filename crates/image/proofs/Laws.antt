@@ -15,7 +15,8 @@ use Rattle.octets.specs.declared.MaybeIpv4.{MaybeIpv4}
 use Rattle.octets.specs.declared.MaybeIpv6.{MaybeIpv6}
 use Rattle.octets.specs.Octets.{pick, if_set, field, ipv4_of, ipv6_of, over, put}
 use Rattle.octets.proofs.Laws.{put_fits, put_not, put_nil, length_over}
-use Rattle.image.specs.Image.{little_endian_bytes, little_endian, bytes_or_zeros, head, head_size, refusal_image, report, read_number, read_image, write_number, write_output, write_report}
+use Rattle.std.specs.Prelude.{Option, Some, None, IfSome}
+use Rattle.image.specs.Image.{address_bytes, little_endian_bytes, little_endian, bytes_or_zeros, head, head_size, refusal_image, report, read_number, read_image, write_number, write_output, write_report}
 use Rattle.image.specs.Steps.{ZerosIfAbsent4, ZerosIfAbsent6}
 
 -- ---- numbers
@@ -97,6 +98,11 @@ pub length_bytes_or_zeros_law : (w : ℕ) (g : Bool) (bs : List ℕ) → length 
 unfolding bytes_or_zeros
 length_bytes_or_zeros_law w true bs e = e
 length_bytes_or_zeros_law w false bs e = length-replicate w 0
+
+pub length_address_bytes : (n : ℕ) (a : Option (List ℕ)) → IfSome a (λ bs. length bs ≡ n) → length (address_bytes n a) ≡ n
+unfolding address_bytes
+length_address_bytes n (Some bs) e = e
+length_address_bytes n None e = length-replicate n 0
 
 -- one of two addresses, one that is given and one that is absent and zeros
 module _ {R : Type 0} (given : R → Bool) (octets : R → List ℕ) (x y : R) (w : ℕ) (gx : given x ≡ true) (gy : given y ≡ false) (zs : octets y ≡ replicate w 0) where

@@ -245,6 +245,21 @@ pub fn number_of<const W: usize>(bs: &[u8]) -> Option<u64>
     Some(number(bs))
 }
 
+// The same as a number of two or of four bytes.
+pub fn u16_of(bs: &[u8]) -> Option<u16>
+    ensures { result ≡ number_of 2 bs.now }
+{
+    let x = number_of::<2>(bs)?;
+    Some(x as u16)
+}
+
+pub fn u32_of(bs: &[u8]) -> Option<u32>
+    ensures { result ≡ number_of 4 bs.now }
+{
+    let x = number_of::<4>(bs)?;
+    Some(x as u32)
+}
+
 impl MaybeU8 {
     pub const ABSENT: MaybeU8 = MaybeU8 {
         given: false,

@@ -6,8 +6,10 @@ use mathlib.Core.Bool.{Bool, true}
 use mathlib.Core.List.{List, [], ◌∷◌, flatten}
 use lib.Bits.{bit_and, and_zero_r}
 use lib.ListN.{length, get_or, take, drop}
-use Rattle.octets.specs.Octets.{bit, if_set, Bytes, field, big_endian_bytes, number_if, u16_of, u32_of, u16_meaning, u32_meaning}
-use Rattle.octets.proofs.Laws.{if_set_le_law, length_field, bytes_take, bytes_drop, ipv4_bytes, ipv6_bytes, u16_bytes, u32_bytes}
+use Rattle.std.specs.Prelude.{Option, None, Some, option_map, unwrap_or}
+use Rattle.types.specs.declared.Teid.{Teid}
+use Rattle.octets.specs.Octets.{bit, if_set, Bytes, field, big_endian_bytes, number_if, address_of, number_of, bytes_if}
+use Rattle.octets.proofs.Laws.{if_set_le_law, length_field, bytes_take, bytes_drop, address_written, number_written}
 use Rattle.octets.proofs.Masks.{flags_low}
 use Rattle.kind.specs.Layout.{clear}
 use Rattle.kind.specs.Kind.{Reads, Kind}
@@ -17,7 +19,7 @@ use Rattle.kind.proofs.Fixed.{Follows, Fixed, fixed_by, accepted_whole, cut_leng
 use Rattle.kind.proofs.Laws.{total, end, Alike, alike_field, alike_bit}
 use Rattle.kind.proofs.Rows.{pieces, take_pieces}
 use Rattle.outer_header_creation.specs.declared.SentFields.{SentFields}
-use Rattle.outer_header_creation.specs.OuterHeaderCreation.{Flags, Value, flags_of, asked, fields_of, meaning, sent_if, or_zero, wire, layout, max_len, kept_bits, teid_of, record_with, record_of, refused, found, read, reader}
+use Rattle.outer_header_creation.specs.OuterHeaderCreation.{Flags, Value, flags_of, asked, fields_of, meaning, sent_if, wire, layout, max_len, kept_bits, teid_of, record_with, record_of, refused, found, read, reader}
 use Rattle.outer_header_creation.specs.Steps.{ends_of}
 use Rattle.outer_header_creation.proofs.Laws.{ends, back_given, back_anyway}
 
@@ -75,17 +77,22 @@ module _ (s : List ℕ) (b : Bytes s) (f : Bool) (at w : ℕ) (h : at + if_set f
   each : Bytes part
   each = bytes_take (if_set f w) (drop at s) (bytes_drop at s b)
 
-  again_address : (xs : List ℕ) → (length part ≡ if_set f w → xs ≡ part) → sent_if f xs ≡ part
-  again_address xs law = back_given f w part long xs (law long)
+  again_address : 0 < w → sent_if f (bytes_if (address_of w part)) ≡ part
+  again_address p = back_given f w part long _ (address_written f part w p long)
 
-  again_teid : 0 < w → w ≤ 4 → sent_if f (big_endian_bytes w (or_zero (u32_meaning (u32_of part)))) ≡ part
-  again_teid p q = back_anyway f w part long (u32_meaning (u32_of part)) p (u32_bytes f w part each p long q)
+  again_anyway : (m : ℕ) → 0 < w → w ≤ m → sent_if f (big_endian_bytes w (unwrap_or (number_of m part) 0)) ≡ part
+  again_anyway m p q = back_anyway f w part long (number_of m part) p (number_written f w part each p long m q)
 
-  again_port : 0 < w → w ≤ 2 → sent_if f (big_endian_bytes w (or_zero (u16_meaning (u16_of part)))) ≡ part
-  again_port p q = back_anyway f w part long (u16_meaning (u16_of part)) p (u16_bytes f w part each p long q)
+  again_tag : 0 < w → w ≤ 4 → sent_if f (number_if w (number_of 4 part)) ≡ part
+  again_tag p q = back_given f w part long _ (number_written f w part each p long 4 q)
 
-  again_tag : 0 < w → w ≤ 4 → sent_if f (number_if w (u32_meaning (u32_of part))) ≡ part
-  again_tag p q = back_given f w part long _ (u32_bytes f w part each p long q)
+-- the number of a TEID that was read
+teid_number : (bs : List ℕ) → option_map (λ t. t.0) (teid_of bs) ≡ number_of 4 bs
+teid_number bs = go (number_of 4 bs)
+  where
+    go : (o : Option ℕ) → option_map (λ t. t.0) (option_map {U = Teid} (λ x. record { 0 = x }) o) ≡ o
+    go (Some x) = refl
+    go None = refl
 
 -- of the first two bytes the flags are kept and the spare byte is cleared
 first_cleared : (x y : ℕ) (bs : List ℕ) → clear kept_bits (x ∷ y ∷ bs) ≡ bit_and x 0xFF ∷ 0 ∷ bs
@@ -93,17 +100,18 @@ unfolding clear
 first_cleared x y bs = ap (λ (z : ℕ). bit_and x 0xFF ∷ z ∷ bs) (and_zero_r y)
 
 pub rewritten : (s : List ℕ) → Bytes s → end layout s ≤ length s → wire (meaning (record_of s)) ≡ clear kept_bits (take (end layout s) s)
-unfolding wire meaning record_with teid_of ends_of flatten
+unfolding wire meaning record_with ends_of flatten
 rewritten s b h =
     rw (
       take_pieces 2 (fields_of (sent s)) s,
       first_two s (omega arith),
       first_cleared (get_or s 0 0) (get_or s 1 0) (flatten (pieces 2 (fields_of (sent s)) s)),
       flags_low 8 (get_or s 0 0),
-      again_teid s b (sent s).teid 2 4 (omega arith) (omega arith) (omega arith),
-      again_address s b (sent s).ipv4 (ends s).teid 4 (omega arith) _ (ipv4_bytes (sent s).ipv4 _),
-      again_address s b (sent s).ipv6 (ends s).ipv4 16 (omega arith) _ (ipv6_bytes (sent s).ipv6 _),
-      again_port s b (sent s).port (ends s).ipv6 2 (omega arith) (omega arith) (omega arith),
+      teid_number (field s 2 (if_set (sent s).teid 4)),
+      again_anyway s b (sent s).teid 2 4 (omega arith) 4 (omega arith) (omega arith),
+      again_address s b (sent s).ipv4 (ends s).teid 4 (omega arith) (omega arith),
+      again_address s b (sent s).ipv6 (ends s).ipv4 16 (omega arith) (omega arith),
+      again_anyway s b (sent s).port (ends s).ipv6 2 (omega arith) 2 (omega arith) (omega arith),
       again_tag s b (sent s).ctag (ends s).port 3 (omega arith) (omega arith) (omega arith),
       again_tag s b (sent s).stag (ends s).ctag 3 (omega arith) (omega arith) (omega arith),
     )

@@ -7,19 +7,16 @@ use mathlib.Core.List.{List}
 use lib.ListN.{length, get_or}
 use Rattle.answer.specs.declared.Answer.{Answer}
 use Rattle.answer.specs.declared.Answer.TheVariants.{Done, Short, InputTooLong}
-use Rattle.types.specs.declared.MaybeTeid.{MaybeTeid}
-use Rattle.octets.specs.declared.MaybeIpv4.{MaybeIpv4}
-use Rattle.octets.specs.declared.MaybeIpv6.{MaybeIpv6}
-use Rattle.octets.specs.declared.MaybeU16.{MaybeU16}
-use Rattle.octets.specs.declared.MaybeU32.{MaybeU32}
-use Rattle.octets.specs.Octets.{field, ipv4_of, ipv6_of, u16_of, u32_of}
+use Rattle.answer.specs.declared.Read.{Read}
+use Rattle.std.specs.Prelude.{Option}
+use Rattle.types.specs.declared.Teid.{Teid}
+use Rattle.octets.specs.Octets.{field, address_of, number_of}
 use Rattle.kind.specs.Layout.{Outcome, accepts, refuses, walk, unless_broken, outcome}
 use Rattle.kind.proofs.Laws.{end, accepted, headed}
 use Rattle.kind.proofs.Cases.{stop_long, stop_head, all_there}
 use Rattle.outer_header_creation.specs.declared.SentFields.{SentFields}
 use Rattle.outer_header_creation.specs.declared.FieldEnds.{FieldEnds}
 use Rattle.outer_header_creation.specs.declared.OuterHeaderCreation.{OuterHeaderCreation}
-use Rattle.outer_header_creation.specs.declared.OuterHeaderCreationRead.{OuterHeaderCreationRead}
 use Rattle.outer_header_creation.specs.OuterHeaderCreation.{Flags, flags_of, asked, fields_of, layout, teid_of, record_with, read, found, refused}
 use Rattle.outer_header_creation.specs.Steps.{ends_of, answer_of}
 
@@ -28,23 +25,23 @@ pub ends_asked : (d : Flags) (a : SentFields) (e : FieldEnds) → a ≡ asked d 
 ends_asked d a e p q = q ∙ ap ends_of p
 
 -- the record of the parts that lie between the ends
-pub parts : (s : List ℕ) (d : Flags) (e : FieldEnds) (teid : MaybeTeid) (a4 : MaybeIpv4) (a6 : MaybeIpv6) (port : MaybeU16) (ctag stag : MaybeU32) → e ≡ ends_of (asked d)
+pub parts : (s : List ℕ) (d : Flags) (e : FieldEnds) (teid : Option Teid) (a4 a6 : Option (List ℕ)) (port ctag stag : Option ℕ) → e ≡ ends_of (asked d)
     → teid ≡ teid_of (field s 2 (e.teid - 2))
-    → a4 ≡ ipv4_of (field s e.teid (e.ipv4 - e.teid))
-    → a6 ≡ ipv6_of (field s e.ipv4 (e.ipv6 - e.ipv4))
-    → port ≡ u16_of (field s e.ipv6 (e.port - e.ipv6))
-    → ctag ≡ u32_of (field s e.port (e.ctag - e.port))
-    → stag ≡ u32_of (field s e.ctag (e.stag - e.ctag))
+    → a4 ≡ address_of 4 (field s e.teid (e.ipv4 - e.teid))
+    → a6 ≡ address_of 16 (field s e.ipv4 (e.ipv6 - e.ipv4))
+    → port ≡ number_of 2 (field s e.ipv6 (e.port - e.ipv6))
+    → ctag ≡ number_of 4 (field s e.port (e.ctag - e.port))
+    → stag ≡ number_of 4 (field s e.ctag (e.stag - e.ctag))
     → record { description = d; teid = teid; ipv4_address = a4; ipv6_address = a6; port_number = port; ctag = ctag; stag = stag } ≡ record_with d s
 unfolding record_with ends_of
 parts s d e teid a4 a6 port ctag stag q r1 r2 r3 r4 r5 r6 = rw (r1, r2, r3, r4, r5, r6, q) (simp add-sub_cancel_left)
 
 module _ (s : List ℕ) where
-  pub too_long : (r : OuterHeaderCreationRead) → 65535 < length s → r ≡ refused (InputTooLong (length s)) → r ≡ read s
+  pub too_long : (r : Read OuterHeaderCreation) → 65535 < length s → r ≡ refused (InputTooLong (length s)) → r ≡ read s
   unfolding read found
   too_long r = stop_long found layout s r
 
-  pub no_head : (r : OuterHeaderCreationRead) → length s ≤ 65535 → length s < 2 → r ≡ refused (Short 0 2 (length s)) → r ≡ read s
+  pub no_head : (r : Read OuterHeaderCreation) → length s ≤ 65535 → length s < 2 → r ≡ refused (Short 0 2 (length s)) → r ≡ read s
   unfolding read found
   no_head r = stop_head found layout s r
 
@@ -55,7 +52,7 @@ module _ (s : List ℕ) where
     last = rw (ends, sent, flags) (omega arith)
 
     -- a field isn't all there
-    pub cut : (x : Answer) (r : OuterHeaderCreationRead) → 2 ≤ length s → length s < e.stag → x ≡ answer_of (walk (length s) 2 (fields_of a)) → r ≡ refused x → r ≡ read s
+    pub cut : (x : Answer) (r : Read OuterHeaderCreation) → 2 ≤ length s → length s < e.stag → x ≡ answer_of (walk (length s) 2 (fields_of a)) → r ≡ refused x → r ≡ read s
     unfolding read found unless_broken
     cut x r h g k q =
         let o : outcome layout s ≡ walk (length s) 2 (fields_of a) = headed layout s f h ∙ rw (sent, flags) in

@@ -1,8 +1,9 @@
 -- Steps of the reader and the writer. Nothing here is the paper's: promises of functions that readers and writers share cite it.
-use Rattle.std.specs.Prelude.{◌+◌, ◌≤◌, ◌&&◌}
+use Rattle.std.specs.Prelude.{◌+◌, ◌≤◌, None, is_some, unwrap_or}
+use Rattle.std.specs.Bool.{then_some}
 use Rattle.answer.specs.declared.Answer.{Answer}
 use Rattle.answer.specs.declared.Answer.TheVariants.{Done}
-use Rattle.octets.specs.Octets.{if_set}
+use Rattle.octets.specs.Octets.{pick, if_set}
 use Rattle.kind.specs.Layout.{Outcome, accepts, refuses}
 use Rattle.outer_header_creation.specs.declared.OuterHeaderCreation.{OuterHeaderCreation}
 use Rattle.outer_header_creation.specs.declared.SentFields.{SentFields}
@@ -35,15 +36,28 @@ abbrev pub answer_of : Outcome → Answer
 answer_of (accepts n) = Done
 answer_of (refuses a) = a
 
--- the fields that are written: those that the flags ask for, an address or a tag only where it is given
-abbrev pub sends : OuterHeaderCreation → SentFields
-sends r =
+-- the fields that are given
+abbrev pub given : OuterHeaderCreation → SentFields
+given r =
+    record {
+      teid = is_some r.teid;
+      ipv4 = is_some r.ipv4_address;
+      ipv6 = is_some r.ipv6_address;
+      port = is_some r.port_number;
+      ctag = is_some r.ctag;
+      stag = is_some r.stag;
+    }
+
+-- what is written of a record: the fields that its flags ask for, TEID and port also where they are absent, as 0
+abbrev pub sent : OuterHeaderCreation → OuterHeaderCreation
+sent r =
     let a = asked r.description in
     record {
-      teid = a.teid;
-      ipv4 = a.ipv4 && r.ipv4_address.given;
-      ipv6 = a.ipv6 && r.ipv6_address.given;
-      port = a.port;
-      ctag = a.ctag && r.ctag.given;
-      stag = a.stag && r.stag.given;
+      description = r.description;
+      teid = then_some a.teid (unwrap_or r.teid (record { 0 = 0 }));
+      ipv4_address = pick a.ipv4 r.ipv4_address None;
+      ipv6_address = pick a.ipv6 r.ipv6_address None;
+      port_number = then_some a.port (unwrap_or r.port_number 0);
+      ctag = pick a.ctag r.ctag None;
+      stag = pick a.stag r.stag None;
     }

@@ -7,11 +7,10 @@ ghost use Rattle.answer.specs.declared.Answer.TheVariants.{Short};
 ghost use Rattle.answer.specs.Paper.{written};
 ghost use Rattle.kind.specs.Layout.{walk};
 ghost use Rattle.outer_header_creation.specs.OuterHeaderCreation.{flags_of, byte_of, asked, fields_of, meaning, wire, max_len, teid_of, untagged, bare, gtpu_ipv4, gtpu_ipv6, udp_ipv4, with_ctag, with_stag, record_with, read, refused};
-ghost use Rattle.outer_header_creation.specs.Steps.{ends_of, Rising, answer_of, sends};
+ghost use Rattle.outer_header_creation.specs.Steps.{ends_of, Rising, answer_of, given, sent};
 
-use answer::{Answer, Written};
-use octets::{MaybeIpv4, MaybeIpv6, MaybeU16, MaybeU32};
-use types::{MaybeTeid, Teid};
+use answer::{Answer, Read, Written};
+use types::Teid;
 
 // What the outer header is to have.
 #[derive(Clone, Copy)]
@@ -29,20 +28,12 @@ pub struct OuterHeaderCreationFlags {
 #[derive(Clone, Copy)]
 pub struct OuterHeaderCreation {
     pub description: OuterHeaderCreationFlags,
-    pub teid: MaybeTeid,
-    pub ipv4_address: MaybeIpv4,
-    pub ipv6_address: MaybeIpv6,
-    pub port_number: MaybeU16,
-    pub ctag: MaybeU32,
-    pub stag: MaybeU32,
-}
-
-// What reading a payload answers; the record is empty where it is refused.
-#[derive(Clone, Copy)]
-pub struct OuterHeaderCreationRead {
-    pub answer: Answer,
-    pub used: usize,
-    pub record: OuterHeaderCreation,
+    pub teid: Option<Teid>,
+    pub ipv4_address: Option<[u8; 4]>,
+    pub ipv6_address: Option<[u8; 16]>,
+    pub port_number: Option<u16>,
+    pub ctag: Option<u32>,
+    pub stag: Option<u32>,
 }
 
 // Which of the fields are in a payload, or in a written form.
@@ -128,14 +119,10 @@ impl SentFields {
 }
 
 // The TEID of these bytes, absent where there are none.
-fn teid_of(bs: &[u8]) -> MaybeTeid
+fn teid_of(bs: &[u8]) -> Option<Teid>
     ensures { result ≡ teid_of bs.now }
 {
-    let number = MaybeU32::of(bs);
-    MaybeTeid {
-        given: number.given,
-        value: Teid(number.value),
-    }
+    octets::u32_of(bs).map(Teid)
 }
 
 // The record of a payload that has all the fields that its flags ask for.
@@ -149,39 +136,25 @@ fn record_of(
     requires stag_in_bounds { ends.stag ≤ length payload.now }
     ensures { result ≡ record_with description payload.now }
 {
-    let end_teid = ends.teid;
-    let end_ipv4 = ends.ipv4;
-    let end_ipv6 = ends.ipv6;
-    let end_port = ends.port;
-    let end_ctag = ends.ctag;
-    let end_stag = ends.stag;
-    let teid = teid_of(&payload[2..end_teid]);
-    let ipv4_address = MaybeIpv4::of(&payload[end_teid..end_ipv4]);
-    let ipv6_address = MaybeIpv6::of(&payload[end_ipv4..end_ipv6]);
-    let port_number = MaybeU16::of(&payload[end_ipv6..end_port]);
-    let ctag = MaybeU32::of(&payload[end_port..end_ctag]);
-    let stag = MaybeU32::of(&payload[end_ctag..end_stag]);
     OuterHeaderCreation {
         description,
-        teid,
-        ipv4_address,
-        ipv6_address,
-        port_number,
-        ctag,
-        stag,
+        teid: teid_of(&payload[2..ends.teid]),
+        ipv4_address: octets::address(&payload[ends.teid..ends.ipv4]),
+        ipv6_address: octets::address(&payload[ends.ipv4..ends.ipv6]),
+        port_number: octets::u16_of(&payload[ends.ipv6..ends.port]),
+        ctag: octets::u32_of(&payload[ends.port..ends.ctag]),
+        stag: octets::u32_of(&payload[ends.ctag..ends.stag]),
     }
 }
 
 // A refused read.
-fn refused(answer: Answer) -> OuterHeaderCreationRead
+fn refused(answer: Answer) -> Read<OuterHeaderCreation>
     ensures { result ≡ refused answer }
 {
-    let record = OuterHeaderCreation::new(OuterHeaderCreationFlags::EMPTY);
-    OuterHeaderCreationRead {
+    Read::refused(
         answer,
-        used: 0,
-        record,
-    }
+        OuterHeaderCreation::new(OuterHeaderCreationFlags::EMPTY),
+    )
 }
 
 impl OuterHeaderCreationFlags {
@@ -206,33 +179,37 @@ impl OuterHeaderCreationFlags {
     pub fn gtpu_ipv4() -> OuterHeaderCreationFlags
         ensures { result ≡ flags_of 0x01 }
     {
-        let mut flags = OuterHeaderCreationFlags::EMPTY;
-        flags.gtpu_udp_ipv4 = true;
-        flags
+        OuterHeaderCreationFlags {
+            gtpu_udp_ipv4: true,
+            ..OuterHeaderCreationFlags::EMPTY
+        }
     }
 
     pub fn gtpu_ipv6() -> OuterHeaderCreationFlags
         ensures { result ≡ flags_of 0x02 }
     {
-        let mut flags = OuterHeaderCreationFlags::EMPTY;
-        flags.gtpu_udp_ipv6 = true;
-        flags
+        OuterHeaderCreationFlags {
+            gtpu_udp_ipv6: true,
+            ..OuterHeaderCreationFlags::EMPTY
+        }
     }
 
     pub fn udp_ipv4() -> OuterHeaderCreationFlags
         ensures { result ≡ flags_of 0x04 }
     {
-        let mut flags = OuterHeaderCreationFlags::EMPTY;
-        flags.udp_ipv4 = true;
-        flags
+        OuterHeaderCreationFlags {
+            udp_ipv4: true,
+            ..OuterHeaderCreationFlags::EMPTY
+        }
     }
 
     pub fn udp_ipv6() -> OuterHeaderCreationFlags
         ensures { result ≡ flags_of 0x08 }
     {
-        let mut flags = OuterHeaderCreationFlags::EMPTY;
-        flags.udp_ipv6 = true;
-        flags
+        OuterHeaderCreationFlags {
+            udp_ipv6: true,
+            ..OuterHeaderCreationFlags::EMPTY
+        }
     }
 
     // The flags of byte 0.
@@ -282,6 +259,22 @@ impl OuterHeaderCreationFlags {
     }
 }
 
+impl From<u8> for OuterHeaderCreationFlags {
+    ghost from_gives = { λ byte flags. flags ≡ flags_of byte };
+
+    fn from(byte: u8) -> OuterHeaderCreationFlags {
+        OuterHeaderCreationFlags::of(byte)
+    }
+}
+
+impl From<OuterHeaderCreationFlags> for u8 {
+    ghost from_gives = { λ flags byte. byte ≡ byte_of flags };
+
+    fn from(flags: OuterHeaderCreationFlags) -> u8 {
+        flags.byte()
+    }
+}
+
 impl OuterHeaderCreation {
     // How long the written forms of records that a reader gives are, at least and at most.
     pub const MIN_LEN: usize = 2;
@@ -295,104 +288,69 @@ impl OuterHeaderCreation {
         OuterHeaderCreation::MAX_LEN
     }
 
-    // A record of these parts, without tags.
-    fn untagged(
-        description: OuterHeaderCreationFlags,
-        teid: MaybeTeid,
-        ipv4_address: MaybeIpv4,
-        ipv6_address: MaybeIpv6,
-        port_number: MaybeU16,
-    ) -> OuterHeaderCreation
-        ensures { result ≡ untagged description teid ipv4_address ipv6_address port_number }
-    {
-        let ctag = MaybeU32::ABSENT;
-        let stag = MaybeU32::ABSENT;
-        OuterHeaderCreation {
-            description,
-            teid,
-            ipv4_address,
-            ipv6_address,
-            port_number,
-            ctag,
-            stag,
-        }
-    }
-
     // The flags only.
     pub fn new(description: OuterHeaderCreationFlags) -> OuterHeaderCreation
         ensures { result ≡ bare description }
     {
-        OuterHeaderCreation::untagged(
+        OuterHeaderCreation {
             description,
-            MaybeTeid::ABSENT,
-            MaybeIpv4::ABSENT,
-            MaybeIpv6::ABSENT,
-            MaybeU16::ABSENT,
-        )
+            teid: None,
+            ipv4_address: None,
+            ipv6_address: None,
+            port_number: None,
+            ctag: None,
+            stag: None,
+        }
     }
 
     pub fn gtpu_ipv4(teid: Teid, ipv4: [u8; 4]) -> OuterHeaderCreation
         ensures { result ≡ gtpu_ipv4 teid ipv4 }
     {
-        OuterHeaderCreation::untagged(
-            OuterHeaderCreationFlags::gtpu_ipv4(),
-            MaybeTeid::new(teid),
-            MaybeIpv4::new(ipv4),
-            MaybeIpv6::ABSENT,
-            MaybeU16::ABSENT,
-        )
+        OuterHeaderCreation {
+            teid: Some(teid),
+            ipv4_address: Some(ipv4),
+            ..OuterHeaderCreation::new(OuterHeaderCreationFlags::gtpu_ipv4())
+        }
     }
 
     pub fn gtpu_ipv6(teid: Teid, ipv6: [u8; 16]) -> OuterHeaderCreation
         ensures { result ≡ gtpu_ipv6 teid ipv6 }
     {
-        OuterHeaderCreation::untagged(
-            OuterHeaderCreationFlags::gtpu_ipv6(),
-            MaybeTeid::new(teid),
-            MaybeIpv4::ABSENT,
-            MaybeIpv6::new(ipv6),
-            MaybeU16::ABSENT,
-        )
+        OuterHeaderCreation {
+            teid: Some(teid),
+            ipv6_address: Some(ipv6),
+            ..OuterHeaderCreation::new(OuterHeaderCreationFlags::gtpu_ipv6())
+        }
     }
 
     pub fn udp_ipv4(ipv4: [u8; 4], port: u16) -> OuterHeaderCreation
         ensures { result ≡ udp_ipv4 ipv4 port }
     {
-        OuterHeaderCreation::untagged(
-            OuterHeaderCreationFlags::udp_ipv4(),
-            MaybeTeid::ABSENT,
-            MaybeIpv4::new(ipv4),
-            MaybeIpv6::ABSENT,
-            MaybeU16::new(port),
-        )
+        OuterHeaderCreation {
+            ipv4_address: Some(ipv4),
+            port_number: Some(port),
+            ..OuterHeaderCreation::new(OuterHeaderCreationFlags::udp_ipv4())
+        }
     }
 
     // A tag sets its flag; its low 24 bits are kept.
     pub fn with_ctag(mut self, ctag: u32) -> OuterHeaderCreation
         ensures { result ≡ with_ctag self ctag }
     {
-        let tag = MaybeU32 {
-            given: true,
-            value: ctag % 16777216,
-        };
         self.description.ctag = true;
-        self.ctag = tag;
+        self.ctag = Some(ctag % 16777216);
         self
     }
 
     pub fn with_stag(mut self, stag: u32) -> OuterHeaderCreation
         ensures { result ≡ with_stag self stag }
     {
-        let tag = MaybeU32 {
-            given: true,
-            value: stag % 16777216,
-        };
         self.description.stag = true;
-        self.stag = tag;
+        self.stag = Some(stag % 16777216);
         self
     }
 
-    pub fn unmarshal(payload: &[u8]) -> OuterHeaderCreationRead
+    pub fn unmarshal(payload: &[u8]) -> Read<OuterHeaderCreation>
         ensures { result ≡ read payload.now }
     {
         let n = payload.len();
@@ -412,26 +370,40 @@ impl OuterHeaderCreation {
         if n < ends.stag {
             return refused(sent.answer(n));
         }
-        OuterHeaderCreationRead {
+        Read {
             answer: Answer::Done,
             used: ends.stag,
             record: record_of(payload, description, ends),
         }
     }
 
-    // The fields that are written: those that the flags ask for, an address or a tag only where it is given.
-    fn sends(self) -> SentFields
-        ensures { result ≡ sends self }
+    // The fields that are given.
+    fn given(self) -> SentFields
+        ensures { result ≡ given self }
     {
-        let description = self.description;
-        let asked = description.asked();
         SentFields {
-            teid: asked.teid,
-            ipv4: octets::both(asked.ipv4, self.ipv4_address.given),
-            ipv6: octets::both(asked.ipv6, self.ipv6_address.given),
-            port: asked.port,
-            ctag: octets::both(asked.ctag, self.ctag.given),
-            stag: octets::both(asked.stag, self.stag.given),
+            teid: self.teid.is_some(),
+            ipv4: self.ipv4_address.is_some(),
+            ipv6: self.ipv6_address.is_some(),
+            port: self.port_number.is_some(),
+            ctag: self.ctag.is_some(),
+            stag: self.stag.is_some(),
+        }
+    }
+
+    // What is written of a record: the fields that its flags ask for, TEID and port also where they are absent, as 0.
+    fn sent(self) -> OuterHeaderCreation
+        ensures { result ≡ sent self }
+    {
+        let asked = self.description.asked();
+        OuterHeaderCreation {
+            description: self.description,
+            teid: asked.teid.then_some(self.teid.unwrap_or(Teid(0))),
+            ipv4_address: self.ipv4_address.filter(|_| asked.ipv4),
+            ipv6_address: self.ipv6_address.filter(|_| asked.ipv6),
+            port_number: asked.port.then_some(self.port_number.unwrap_or(0)),
+            ctag: self.ctag.filter(|_| asked.ctag),
+            stag: self.stag.filter(|_| asked.stag),
         }
     }
 
@@ -439,17 +411,8 @@ impl OuterHeaderCreation {
         ensures value { result ≡ written (length (wire (meaning self))) (length out.old) }
         ensures out_after { out.new ≡ put out.old 0 (wire (meaning self)) }
     {
-        let teid = octets::if_set(self.teid.given, self.teid.value.0 as usize) as u64;
-        let port = octets::if_set(self.port_number.given, self.port_number.value as usize) as u64;
-        let ctag = self.ctag.value as u64;
-        let stag = self.stag.value as u64;
-        let description = self.description;
-        let sends = self.sends();
-        let mut ipv4_address = self.ipv4_address;
-        let mut ipv6_address = self.ipv6_address;
-        ipv4_address.given = sends.ipv4;
-        ipv6_address.given = sends.ipv6;
-        let ends = sends.ends();
+        let sent = self.sent();
+        let ends = sent.given().ends();
         let len = ends.stag;
         if out.len() < len {
             return Written {
@@ -457,14 +420,14 @@ impl OuterHeaderCreation {
                 len: 0,
             };
         }
-        octets::put_byte(out, 0, description.byte());
+        octets::put_byte(out, 0, sent.description.byte());
         octets::put_byte(out, 1, 0);
-        octets::put_number_given(out, 2, 4, sends.teid, teid);
-        octets::put_ipv4(out, ends.teid, ipv4_address);
-        octets::put_ipv6(out, ends.ipv4, ipv6_address);
-        octets::put_number_given(out, ends.ipv6, 2, sends.port, port);
-        octets::put_number_given(out, ends.port, 3, sends.ctag, ctag);
-        octets::put_number_given(out, ends.ctag, 3, sends.stag, stag);
+        octets::put_number_if(out, 2, 4, sent.teid.map(|teid| teid.0 as u64));
+        octets::put_address(out, ends.teid, sent.ipv4_address);
+        octets::put_address(out, ends.ipv4, sent.ipv6_address);
+        octets::put_number_if(out, ends.ipv6, 2, sent.port_number.map(u64::from));
+        octets::put_number_if(out, ends.port, 3, sent.ctag.map(u64::from));
+        octets::put_number_if(out, ends.ctag, 3, sent.stag.map(u64::from));
         Written {
             answer: Answer::Done,
             len,

@@ -5,16 +5,20 @@ use native.Mathlib.Omega.{arith}
 use mathlib.Core.Path.{◌≡◌, refl, sym, ap, ◌∙◌}
 use mathlib.Core.Bool.{Bool, true, false, ◌&&◌}
 use mathlib.Core.List.{List, [], ◌∷◌, flatten}
+use lib.Dec.{eqb}
 use lib.ListN.{length, get_or, length-append}
-use Rattle.octets.specs.Octets.{bit, if_set, field, ipv4_of, ipv6_of, presence, bytes_if, number_if, put}
-use Rattle.octets.proofs.Laws.{if_set_le_law, flags_kept, length_field, number_length, ipv4_bytes, ipv6_bytes, put_nil, Puts, ends, then, put_row}
+use Rattle.std.specs.Prelude.{Some, None, option_map, is_some, unwrap_or}
+use Rattle.std.specs.Bool.{then_some}
+use Rattle.types.specs.declared.Teid.{Teid}
+use Rattle.octets.specs.Octets.{pick, bit, if_set, field, address_of, bytes_if, big_endian_bytes, number_if, put}
+use Rattle.octets.proofs.Laws.{if_set_le_law, flags_kept, length_field, length_number_if, address_written, put_nil, Puts, ends, then, put_row}
 use Rattle.image.specs.Image.{number_at}
 use Rattle.outer_header_creation.specs.OuterHeaderCreation.{flags_of, byte_of, asked, sent_if, meaning, wire}
-use Rattle.outer_header_creation.proofs.Laws.{sent_given, sent_anyway}
+use Rattle.outer_header_creation.proofs.Laws.{sent_anyway}
 use Rattle.outer_header_creation.specs.declared.SentFields.{SentFields}
 use Rattle.outer_header_creation.specs.Steps.{ends_of}
 use Rattle.outer_header_creation_image.specs.OuterHeaderCreationImage.{flags_at, given_at, teid_at, port_at, ctag_at, stag_at, ipv4_at, ipv6_at, size, record_at, written_form}
-use Rattle.outer_header_creation_image.specs.Steps.{sends_by, ipv4_sent, ipv6_sent}
+use Rattle.outer_header_creation_image.specs.Steps.{sends_by, address_sent}
 
 -- a field that is sent moves the place behind it, one that isn't leaves it
 module _ (at w : ℕ) (sent : Bool) where
@@ -44,30 +48,52 @@ length_most a =
 flags_byte : (f : ℕ) → f < 256 → byte_of (flags_of f) ≡ f
 flags_byte f h = flags_kept 8 f ∙ mod-eq_of_lt h
 
+-- an address that isn't sent has no bytes
+pub no_address : (n : ℕ) (m : List ℕ) (at : ℕ) → address_sent n m at false ≡ []
+unfolding address_sent address_of if_set bytes_if
+no_address n m at = go (eqb 0 n)
+  where
+    go : (t : Bool) → bytes_if (pick t (Some []) None) ≡ []
+    go true = refl
+    go false = refl
+
+-- a number that stands in an image, under its flags
+number_asked : (f g : Bool) (x : ℕ) → number_if 3 (then_some (f && g) x) ≡ sent_if f (number_if 3 (then_some g x))
+unfolding number_if sent_if
+number_asked true g x = refl
+number_asked false g x = refl
+
+or_zero : (g : Bool) (x : ℕ) → unwrap_or (then_some g x) 0 ≡ if_set g x
+unfolding if_set
+or_zero true x = refl
+or_zero false x = refl
+
+number_anyway : (w : ℕ) (f g : Bool) (x : ℕ) → number_if w (then_some f (if_set g x)) ≡ sent_if f (big_endian_bytes w (unwrap_or (then_some g x) 0))
+number_anyway w f g x = rw (← or_zero g x) (sent_anyway w f (then_some g x))
+
+teid_given : (g : Bool) (x : ℕ) → option_map {T = Teid} (λ t. t.0) (then_some g (record { 0 = x })) ≡ then_some g x
+teid_given true x = refl
+teid_given false x = refl
+
+number_long : (s : Bool) (w x : ℕ) → length (number_if w (then_some s x)) ≡ if_set s w
+number_long s w x = length_number_if w (then_some s x) ∙ ap (λ b. if_set b w) (known s)
+  where
+    known : (s : Bool) → is_some (then_some s x) ≡ s
+    known true = refl
+    known false = refl
+
 -- an address under its flags, and how long it is where the image has its bytes
 module _ (m : List ℕ) where
-  sent4 : (f g : Bool) → ipv4_sent m (f && g) ≡ sent_if f (ipv4_sent m g)
-  unfolding ipv4_sent sent_if if_set ipv4_of presence bytes_if
-  sent4 true g = refl
-  sent4 false g = refl
+  address_asked : (n at : ℕ) (f g : Bool) → address_sent n m at (f && g) ≡ sent_if f (address_sent n m at g)
+  unfolding sent_if
+  address_asked n at true g = refl
+  address_asked n at false g = no_address n m at
 
-  sent6 : (f g : Bool) → ipv6_sent m (f && g) ≡ sent_if f (ipv6_sent m g)
-  unfolding ipv6_sent sent_if if_set ipv6_of presence bytes_if
-  sent6 true g = refl
-  sent6 false g = refl
-
-  module _ (long : size ≤ length m) where
-    length4 : (s : Bool) → length (ipv4_sent m s) ≡ if_set s 4
-    unfolding ipv4_sent
-    length4 s =
-        let l : length (field m ipv4_at (if_set s 4)) ≡ if_set s 4 = length_field ipv4_at (if_set s 4) m (omega (arith, if_set_le_law s 4)) in
-        ap length (ipv4_bytes s (field m ipv4_at (if_set s 4)) l) ∙ l
-
-    length6 : (s : Bool) → length (ipv6_sent m s) ≡ if_set s 16
-    unfolding ipv6_sent
-    length6 s =
-        let l : length (field m ipv6_at (if_set s 16)) ≡ if_set s 16 = length_field ipv6_at (if_set s 16) m (omega (arith, if_set_le_law s 16)) in
-        ap length (ipv6_bytes s (field m ipv6_at (if_set s 16)) l) ∙ l
+  length_address : (n at : ℕ) (s : Bool) → 0 < n → at + n ≤ length m → length (address_sent n m at s) ≡ if_set s n
+  unfolding address_sent
+  length_address n at s h room =
+      let l : length (field m at (if_set s n)) ≡ if_set s n = length_field at (if_set s n) m (omega (arith, if_set_le_law s n)) in
+      ap length (address_written s (field m at (if_set s n)) n h l) ∙ l
 
 -- what is read from an image: its flags and given fields, which fields are sent, and the numbers
 pub record Parts (m : List ℕ) (f g : ℕ) (s6 s1 s2 s7 s8 s9 : Bool) (teid port ctag stag : ℕ) : Type 0 where
@@ -91,17 +117,17 @@ module _ {m : List ℕ} {f g : ℕ} {s6 s1 s2 s7 s8 s9 : Bool} {teid port ctag s
   pieces =
       (f ∷ [])
       ∷ (0 ∷ [])
-      ∷ number_if 4 (presence s6 teid)
-      ∷ ipv4_sent m s1
-      ∷ ipv6_sent m s2
-      ∷ number_if 2 (presence s7 port)
-      ∷ number_if 3 (presence s8 ctag)
-      ∷ number_if 3 (presence s9 stag)
+      ∷ number_if 4 (then_some s6 teid)
+      ∷ address_sent 4 m ipv4_at s1
+      ∷ address_sent 16 m ipv6_at s2
+      ∷ number_if 2 (then_some s7 port)
+      ∷ number_if 3 (then_some s8 ctag)
+      ∷ number_if 3 (then_some s9 stag)
       ∷ []
 
   -- together they are the form
   pub long_enough : flatten pieces ≡ written_form m
-  unfolding wire meaning record_at flatten ipv4_sent ipv6_sent
+  unfolding wire meaning record_at flatten address_sent
   long_enough =
       let a = asked (flags_of f) in
       rw (
@@ -118,12 +144,13 @@ module _ {m : List ℕ} {f g : ℕ} {s6 s1 s2 s7 s8 s9 : Bool} {teid port ctag s
         p.port_is,
         p.ctag_is,
         p.stag_is,
-        sent_anyway 4 (number_at m teid_at % 4294967296) a.teid (bit 2 g),
-        sent4 m a.ipv4 (bit 0 g),
-        sent6 m a.ipv6 (bit 1 g),
-        sent_anyway 2 (number_at m port_at % 65536) a.port (bit 3 g),
-        sent_given (number_if 3) (unfold number_if in refl) a.ctag (bit 4 g) (number_at m ctag_at % 4294967296),
-        sent_given (number_if 3) (unfold number_if in refl) a.stag (bit 5 g) (number_at m stag_at % 4294967296),
+        teid_given (bit 2 g) (number_at m teid_at % 4294967296),
+        number_anyway 4 a.teid (bit 2 g) (number_at m teid_at % 4294967296),
+        address_asked m 4 ipv4_at a.ipv4 (bit 0 g),
+        address_asked m 16 ipv6_at a.ipv6 (bit 1 g),
+        number_anyway 2 a.port (bit 3 g) (number_at m port_at % 65536),
+        number_asked a.ctag (bit 4 g) (number_at m ctag_at % 4294967296),
+        number_asked a.stag (bit 5 g) (number_at m stag_at % 4294967296),
       )
 
   -- and so long
@@ -132,12 +159,12 @@ module _ {m : List ℕ} {f g : ℕ} {s6 s1 s2 s7 s8 s9 : Bool} {teid port ctag s
   count =
       simp (
         length-append,
-        number_length s6 4 teid,
-        length4 m p.long s1,
-        length6 m p.long s2,
-        number_length s7 2 port,
-        number_length s8 3 ctag,
-        number_length s9 3 stag,
+        number_long s6 4 teid,
+        length_address m 4 ipv4_at s1 (omega arith) (omega (arith, p.long)),
+        length_address m 16 ipv6_at s2 (omega arith) (omega (arith, p.long)),
+        number_long s7 2 port,
+        number_long s8 3 ctag,
+        number_long s9 3 stag,
       )
       (omega arith)
 
@@ -150,23 +177,23 @@ module _ {m : List ℕ} {f g : ℕ} {s6 s1 s2 s7 s8 s9 : Bool} {teid port ctag s
     module _ (d d1 d2 d3 d4 d5 d6 d7 d8 : List ℕ)
         (q1 : d1 ≡ put d 0 (f ∷ []))
         (q2 : d2 ≡ put d1 1 (0 ∷ []))
-        (q3 : d3 ≡ put d2 2 (number_if 4 (presence s6 teid)))
-        (q4 : d4 ≡ put d3 n6 (ipv4_sent m s1))
-        (q5 : d5 ≡ put d4 n1 (ipv6_sent m s2))
-        (q6 : d6 ≡ put d5 n2 (number_if 2 (presence s7 port)))
-        (q7 : d7 ≡ put d6 n7 (number_if 3 (presence s8 ctag)))
-        (q8 : d8 ≡ put d7 n8 (number_if 3 (presence s9 stag))) where
+        (q3 : d3 ≡ put d2 2 (number_if 4 (then_some s6 teid)))
+        (q4 : d4 ≡ put d3 n6 (address_sent 4 m ipv4_at s1))
+        (q5 : d5 ≡ put d4 n1 (address_sent 16 m ipv6_at s2))
+        (q6 : d6 ≡ put d5 n2 (number_if 2 (then_some s7 port)))
+        (q7 : d7 ≡ put d6 n7 (number_if 3 (then_some s8 ctag)))
+        (q8 : d8 ≡ put d7 n8 (number_if 3 (then_some s9 stag))) where
       row : Puts d 0 (flatten pieces) d8
       unfolding flatten
       row =
           then _ 1 q1 refl
           (then _ 2 q2 refl
-          (then _ n6 q3 (omega (arith, number_length s6 4 teid))
-          (then _ n1 q4 (omega (arith, length4 m p.long s1))
-          (then _ n2 q5 (omega (arith, length6 m p.long s2))
-          (then _ n7 q6 (omega (arith, number_length s7 2 port))
-          (then _ n8 q7 (omega (arith, number_length s8 3 ctag))
-          (then _ n9 q8 (omega (arith, number_length s9 3 stag))
+          (then _ n6 q3 (omega (arith, number_long s6 4 teid))
+          (then _ n1 q4 (omega (arith, length_address m 4 ipv4_at s1 (omega arith) (omega (arith, p.long))))
+          (then _ n2 q5 (omega (arith, length_address m 16 ipv6_at s2 (omega arith) (omega (arith, p.long))))
+          (then _ n7 q6 (omega (arith, number_long s7 2 port))
+          (then _ n8 q7 (omega (arith, number_long s8 3 ctag))
+          (then _ n9 q8 (omega (arith, number_long s9 3 stag))
           (ends (sym (put_nil d8 n9))))))))))
 
       pub stored : (ends_of (sends_by f g)).stag ≤ length d → d8 ≡ put d 0 (written_form m)

@@ -1,12 +1,13 @@
 -- The Outer Header Creation in a record image: the head, then the fields, each at its place.
-use Rattle.std.specs.Prelude.{ℕ, ◌+◌, ◌%◌, Bool, List, [], ◌∷◌, ◌++◌, length, get_or}
+use Rattle.std.specs.Prelude.{ℕ, ◌+◌, ◌%◌, Bool, List, [], ◌∷◌, ◌++◌, length, get_or, is_some, unwrap_or}
+use Rattle.std.specs.Bool.{then_some}
+use Rattle.answer.specs.declared.Read.{Read}
 use Rattle.answer.specs.declared.Written.{Written}
 use Rattle.answer.specs.Paper.{written}
-use Rattle.octets.specs.Octets.{bit, if_set, flag_byte, field, ipv4_of, ipv6_of, put}
+use Rattle.octets.specs.Octets.{bit, if_set, flag_byte, field, address_of, put}
 use Rattle.outer_header_creation.specs.declared.OuterHeaderCreation.{OuterHeaderCreation}
-use Rattle.outer_header_creation.specs.declared.OuterHeaderCreationRead.{OuterHeaderCreationRead}
 use Rattle.outer_header_creation.specs.OuterHeaderCreation.{flags_of, byte_of, meaning, wire}
-use Rattle.image.specs.Image.{little_endian_bytes, number_at, bytes_or_zeros, head, head_size}
+use Rattle.image.specs.Image.{little_endian_bytes, number_at, address_bytes, head, head_size}
 
 -- flags, a byte: bit 0 GTP-U/UDP/IPv4, 1 GTP-U/UDP/IPv6, 2 UDP/IPv4, 3 UDP/IPv6, 4 IPv4, 5 IPv6, 6 C-TAG, 7 S-TAG
 abbrev pub flags_at : ℕ
@@ -42,27 +43,26 @@ ipv6_at = ipv4_at + 4
 abbrev pub size : ℕ
 size = ipv6_at + 16
 
--- the bytes of a record
+-- the bytes of a record: zeros where a field is absent
 unfoldable pub record_image : OuterHeaderCreation → List ℕ
 record_image r =
     byte_of r.description
     ∷ flag_byte
-    (r.ipv4_address.given
-    ∷ r.ipv6_address.given
-    ∷ r.teid.given
-    ∷ r.port_number.given
-    ∷ r.ctag.given
-    ∷ r.stag.given
+    (is_some r.ipv4_address
+    ∷ is_some r.ipv6_address
+    ∷ is_some r.teid
+    ∷ is_some r.port_number
+    ∷ is_some r.ctag
+    ∷ is_some r.stag
     ∷ [])
-    ∷ (little_endian_bytes 8 r.teid.value.0
-    ++ (little_endian_bytes 8 r.port_number.value
-    ++ (little_endian_bytes 8 r.ctag.value
-    ++ (little_endian_bytes 8 r.stag.value
-    ++ (bytes_or_zeros 4 r.ipv4_address.given r.ipv4_address.octets
-    ++ bytes_or_zeros 16 r.ipv6_address.given r.ipv6_address.octets)))))
+    ∷ (little_endian_bytes 8 (unwrap_or r.teid (record { 0 = 0 })).0
+    ++ (little_endian_bytes 8 (unwrap_or r.port_number 0)
+    ++ (little_endian_bytes 8 (unwrap_or r.ctag 0)
+    ++ (little_endian_bytes 8 (unwrap_or r.stag 0)
+    ++ (address_bytes 4 r.ipv4_address ++ address_bytes 16 r.ipv6_address)))))
 
 -- the image of what a read answered
-abbrev pub image_of : OuterHeaderCreationRead → List ℕ
+abbrev pub image_of : Read OuterHeaderCreation → List ℕ
 image_of r = head r.answer r.used ++ record_image r.«record»
 
 -- the record that stands in an image
@@ -71,12 +71,12 @@ record_at m =
     let given : ℕ → Bool = λ k. bit k (get_or m given_at 0) in
     record {
       description = flags_of (get_or m flags_at 0);
-      teid = record { given = given 2; value = record { 0 = number_at m teid_at % 4294967296 } };
-      ipv4_address = ipv4_of (field m ipv4_at (if_set (given 0) 4));
-      ipv6_address = ipv6_of (field m ipv6_at (if_set (given 1) 16));
-      port_number = record { given = given 3; value = number_at m port_at % 65536 };
-      ctag = record { given = given 4; value = number_at m ctag_at % 4294967296 };
-      stag = record { given = given 5; value = number_at m stag_at % 4294967296 };
+      teid = then_some (given 2) (record { 0 = number_at m teid_at % 4294967296 });
+      ipv4_address = address_of 4 (field m ipv4_at (if_set (given 0) 4));
+      ipv6_address = address_of 16 (field m ipv6_at (if_set (given 1) 16));
+      port_number = then_some (given 3) (number_at m port_at % 65536);
+      ctag = then_some (given 4) (number_at m ctag_at % 4294967296);
+      stag = then_some (given 5) (number_at m stag_at % 4294967296);
     }
 
 -- what writing that record answers, and the output that it leaves

@@ -2,20 +2,19 @@
 #![tactic(auto)]
 
 ghost use Rattle.std.specs.Prelude.{◌≡◌, ◌++◌, ◌+◌, ◌≤◌, leb, length, get_or};
+ghost use Rattle.std.specs.Bool.{then_some};
 ghost use Rattle.answer.specs.declared.Answer.TheVariants.{Done};
 ghost use Rattle.answer.specs.Paper.{number_of};
-ghost use Rattle.octets.specs.Octets.{if_set, presence, number_if, put};
-ghost use Rattle.image.specs.Steps.{ZerosIfAbsent4, ZerosIfAbsent6};
+ghost use Rattle.octets.specs.Octets.{if_set, number_if, put};
 ghost use Rattle.image.specs.Image.{head, read_number, read_image, long_enough, write_number, write_output, write_report};
 ghost use Rattle.outer_header_creation.specs.OuterHeaderCreation.{byte_of, read};
 ghost use Rattle.outer_header_creation.specs.Steps.{ends_of};
 ghost use Rattle.outer_header_creation_image.specs.OuterHeaderCreationImage.{flags_at, given_at, size, record_image, image_of, written_form, writes, stores};
-ghost use Rattle.outer_header_creation_image.specs.Steps.{sends_by, ipv4_sent, ipv6_sent};
+ghost use Rattle.outer_header_creation_image.specs.Steps.{sends_by, address_sent};
 
 use answer::{Answer, Written};
-use octets::{MaybeIpv4, MaybeIpv6, MaybeU16, MaybeU32};
 use outer_header_creation::{OuterHeaderCreation, OuterHeaderCreationFlags, SentFields};
-use types::{MaybeTeid, Teid};
+use types::Teid;
 
 // Where each field of an image stands, and how long an image is.
 const FLAGS: usize = image::HEAD;
@@ -41,37 +40,27 @@ pub const SIZE: usize = IPV6 + 16;
 fn put_image(out: &mut [u8], flags: u8, used: usize, record: OuterHeaderCreation)
     requires size_in_bounds { size ≤ length out.old }
     requires flags_value { flags ≡ byte_of «record».description }
-    requires zeros_if_absent4 { ZerosIfAbsent4 «record».ipv4_address }
-    requires zeros_if_absent6 { ZerosIfAbsent6 «record».ipv6_address }
     ensures { out.new ≡ put out.old 0 (head Done used ++ record_image «record») }
 {
     if out.len() < SIZE {
         return;
     }
-    let teid = record.teid;
-    let ipv4_address = record.ipv4_address;
-    let ipv6_address = record.ipv6_address;
-    let octets4 = ipv4_address.octets;
-    let octets6 = ipv6_address.octets;
-    let port = record.port_number;
-    let ctag = record.ctag;
-    let stag = record.stag;
     let given = octets::flag_byte(
-        ipv4_address.given,
-        ipv6_address.given,
-        teid.given,
-        port.given,
-        ctag.given,
-        stag.given,
+        record.ipv4_address.is_some(),
+        record.ipv6_address.is_some(),
+        record.teid.is_some(),
+        record.port_number.is_some(),
+        record.ctag.is_some(),
+        record.stag.is_some(),
         false,
         false,
     );
-    octets::put_bytes(out, IPV6, &octets6);
-    octets::put_bytes(out, IPV4, &octets4);
-    image::put_u64(out, STAG, stag.value as u64);
-    image::put_u64(out, CTAG, ctag.value as u64);
-    image::put_u64(out, PORT, port.value as u64);
-    image::put_u64(out, TEID, teid.value.0 as u64);
+    image::put_address(out, IPV6, record.ipv6_address);
+    image::put_address(out, IPV4, record.ipv4_address);
+    image::put_u64(out, STAG, record.stag.unwrap_or(0) as u64);
+    image::put_u64(out, CTAG, record.ctag.unwrap_or(0) as u64);
+    image::put_u64(out, PORT, record.port_number.unwrap_or(0) as u64);
+    image::put_u64(out, TEID, record.teid.unwrap_or(Teid(0)).0 as u64);
     octets::put_byte(out, GIVEN, given);
     octets::put_byte(out, FLAGS, flags);
     image::put_head(out, Answer::Done, used);
@@ -95,40 +84,22 @@ fn read_by(payload: &[u8], image: &mut [u8], flags: u8) -> u64
     if n < ends.stag {
         return image::put_refused(image, SIZE, sent.answer(n));
     }
-    let end_teid = ends.teid;
-    let end_ipv4 = ends.ipv4;
-    let end_ipv6 = ends.ipv6;
-    let end_port = ends.port;
-    let end_ctag = ends.ctag;
-    let end_stag = ends.stag;
-    let ipv4_address = MaybeIpv4::of(&payload[end_teid..end_ipv4]);
-    let ipv6_address = MaybeIpv6::of(&payload[end_ipv4..end_ipv6]);
-    let port = MaybeU16::of(&payload[end_ipv6..end_port]);
-    let ctag = MaybeU32::of(&payload[end_port..end_ctag]);
-    let stag = MaybeU32::of(&payload[end_ctag..end_stag]);
-    let teid = MaybeU32::of(&payload[2..end_teid]);
+    let ipv4_address = octets::address(&payload[ends.teid..ends.ipv4]);
+    let ipv6_address = octets::address(&payload[ends.ipv4..ends.ipv6]);
+    let port_number = octets::u16_of(&payload[ends.ipv6..ends.port]);
+    let ctag = octets::u32_of(&payload[ends.port..ends.ctag]);
+    let stag = octets::u32_of(&payload[ends.ctag..ends.stag]);
+    let teid = octets::u32_of(&payload[2..ends.teid]).map(Teid);
     let record = OuterHeaderCreation {
         description,
-        teid: MaybeTeid {
-            given: sent.teid,
-            value: Teid(teid.value),
-        },
+        teid,
         ipv4_address,
         ipv6_address,
-        port_number: MaybeU16 {
-            given: sent.port,
-            value: port.value,
-        },
-        ctag: MaybeU32 {
-            given: sent.ctag,
-            value: ctag.value,
-        },
-        stag: MaybeU32 {
-            given: sent.stag,
-            value: stag.value,
-        },
+        port_number,
+        ctag,
+        stag,
     };
-    put_image(image, description.byte(), end_stag, record);
+    put_image(image, description.byte(), ends.stag, record);
     0
 }
 
@@ -174,54 +145,19 @@ fn sends(flags: u8, given: u8) -> SentFields
     }
 }
 
-// Each of them alone, so that the compiler makes one test of it.
-fn sends_teid(flags: u8, given: u8) -> bool
-    ensures { result ≡ (sends_by flags given).teid }
+// One of them alone, so that the compiler makes one test of it.
+fn is_sent<F: FnOnce(SentFields) -> bool>(flags: u8, given: u8, field: F) -> bool
+    requires { F.IsAlwaysCallable field }
+    ensures { F.post field (sends_by flags given) result }
 {
-    let sends = sends(flags, given);
-    sends.teid
-}
-
-fn sends_ipv4(flags: u8, given: u8) -> bool
-    ensures { result ≡ (sends_by flags given).ipv4 }
-{
-    let sends = sends(flags, given);
-    sends.ipv4
-}
-
-fn sends_ipv6(flags: u8, given: u8) -> bool
-    ensures { result ≡ (sends_by flags given).ipv6 }
-{
-    let sends = sends(flags, given);
-    sends.ipv6
-}
-
-fn sends_port(flags: u8, given: u8) -> bool
-    ensures { result ≡ (sends_by flags given).port }
-{
-    let sends = sends(flags, given);
-    sends.port
-}
-
-fn sends_ctag(flags: u8, given: u8) -> bool
-    ensures { result ≡ (sends_by flags given).ctag }
-{
-    let sends = sends(flags, given);
-    sends.ctag
-}
-
-fn sends_stag(flags: u8, given: u8) -> bool
-    ensures { result ≡ (sends_by flags given).stag }
-{
-    let sends = sends(flags, given);
-    sends.stag
+    field(sends(flags, given))
 }
 
 // Puts a number of w bytes, where it is sent, and returns where the next field begins.
 fn put_number_sent(out: &mut [u8], at: usize, w: usize, sent: bool, x: u64) -> usize
     requires { at + w ≤ 34 }
     ensures value { result ≡ at + if_set sent w }
-    ensures out_after { out.new ≡ put out.old at (number_if w (presence sent x)) }
+    ensures out_after { out.new ≡ put out.old at (number_if w (then_some sent x)) }
 {
     if sent {
         octets::put_number(out, at, w, x);
@@ -230,27 +166,21 @@ fn put_number_sent(out: &mut [u8], at: usize, w: usize, sent: bool, x: u64) -> u
     at
 }
 
-// The same of the addresses of an image.
-fn put_ipv4_sent(image: &[u8], out: &mut [u8], at: usize, sent: bool) -> usize
-    requires { at ≤ 34 }
-    ensures value { result ≡ at + if_set sent 4 }
-    ensures out_after { out.new ≡ put out.old at (ipv4_sent image.now sent) }
+// The same of an address of N bytes, which stands at a place of an image.
+fn put_address_sent<const N: usize>(
+    image: &[u8],
+    from: usize,
+    out: &mut [u8],
+    at: usize,
+    sent: bool,
+) -> usize
+    requires { at + N ≤ 34 }
+    ensures value { result ≡ at + if_set sent N }
+    ensures out_after { out.new ≡ put out.old at (address_sent N image.now from sent) }
 {
     if sent {
-        octets::put_ipv4(out, at, image::ipv4_at(image, IPV4, true));
-        return at + 4;
-    }
-    at
-}
-
-fn put_ipv6_sent(image: &[u8], out: &mut [u8], at: usize, sent: bool) -> usize
-    requires { at ≤ 34 }
-    ensures value { result ≡ at + if_set sent 16 }
-    ensures out_after { out.new ≡ put out.old at (ipv6_sent image.now sent) }
-{
-    if sent {
-        octets::put_ipv6(out, at, image::ipv6_at(image, IPV6, true));
-        return at + 16;
+        octets::put_address::<N>(out, at, image::address_at(image, from, true));
+        return at + N;
     }
     at
 }
@@ -268,16 +198,52 @@ fn put_form(image: &[u8], out: &mut [u8], flags: u8, given: u8) -> usize
     octets::put_byte(out, 1, 0);
     let teid = image::u64_at(image, TEID);
     let teid_or_zero = octets::if_set(octets::bit(given, 2), (teid % 4294967296) as usize) as u64;
-    let end_teid = put_number_sent(out, 2, 4, sends_teid(flags, given), teid_or_zero);
-    let end_ipv4 = put_ipv4_sent(image, out, end_teid, sends_ipv4(flags, given));
-    let end_ipv6 = put_ipv6_sent(image, out, end_ipv4, sends_ipv6(flags, given));
+    let end_teid = put_number_sent(
+        out,
+        2,
+        4,
+        is_sent(flags, given, |sends| sends.teid),
+        teid_or_zero,
+    );
+    let end_ipv4 = put_address_sent::<4>(
+        image,
+        IPV4,
+        out,
+        end_teid,
+        is_sent(flags, given, |sends| sends.ipv4),
+    );
+    let end_ipv6 = put_address_sent::<16>(
+        image,
+        IPV6,
+        out,
+        end_ipv4,
+        is_sent(flags, given, |sends| sends.ipv6),
+    );
     let port = image::u64_at(image, PORT);
     let port_or_zero = octets::if_set(octets::bit(given, 3), (port % 65536) as usize) as u64;
-    let end_port = put_number_sent(out, end_ipv6, 2, sends_port(flags, given), port_or_zero);
+    let end_port = put_number_sent(
+        out,
+        end_ipv6,
+        2,
+        is_sent(flags, given, |sends| sends.port),
+        port_or_zero,
+    );
     let ctag = image::u64_at(image, CTAG) % 4294967296;
-    let end_ctag = put_number_sent(out, end_port, 3, sends_ctag(flags, given), ctag);
+    let end_ctag = put_number_sent(
+        out,
+        end_port,
+        3,
+        is_sent(flags, given, |sends| sends.ctag),
+        ctag,
+    );
     let stag = image::u64_at(image, STAG) % 4294967296;
-    put_number_sent(out, end_ctag, 3, sends_stag(flags, given), stag)
+    put_number_sent(
+        out,
+        end_ctag,
+        3,
+        is_sent(flags, given, |sends| sends.stag),
+        stag,
+    )
 }
 
 // Whether the written form has room; where the longest one has, its length isn't counted.

@@ -4,4 +4,4 @@ use Rattle.outer_header_creation.proofs.record_of.Goals as goal
 
 pub returns : goal.returns
 returns c =
-    parts _ _ _ _ _ _ _ _ _ c.requires.ends_value c.teid_of-teid.ensures c.of-ipv4_address.ensures c.of-ipv6_address.ensures c.of-port_number.ensures c.of-ctag.ensures c.of-stag.ensures
+    parts _ _ _ _ _ _ _ _ _ c.requires.ends_value c.teid_of.ensures c.address.ensures c.address-2.ensures c.u16_of.ensures c.u32_of.ensures c.u32_of-2.ensures

@@ -4,4 +4,4 @@ use Rattle.outer_header_creation.proofs.refused.Goals as goal
 
 pub returns : goal.returns
 unfolding refused
-returns c = rw c.new-record.ensures
+returns c = rw c.new.ensures at c.refused.ensures

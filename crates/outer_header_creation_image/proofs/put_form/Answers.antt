@@ -5,6 +5,7 @@ use mathlib.Core.Path.{◌≡◌, ap, ◌∙◌}
 use mathlib.Core.Bool.{Bool}
 use mathlib.Core.List.{List}
 use lib.ListN.{length}
+use Rattle.std.proofs.Common.{rules}
 use Rattle.octets.specs.Octets.{bit, if_set}
 use Rattle.octets.proofs.Laws.{if_set_le_law, length_put}
 use Rattle.image.specs.Image.{number_at}
@@ -26,24 +27,24 @@ port_is m at g x u b p q e = rw (e, q, p)
 tag_is : (m : List ℕ) (at x : ℕ) → x ≡ number_at m at → x % 4294967296 ≡ number_at m at % 4294967296
 tag_is m at x p = rw p
 
-pub put_ipv4_sent-end_ipv4-requires : goal.put_ipv4_sent-end_ipv4-requires
-put_ipv4_sent-end_ipv4-requires c = omega (arith, most _ _ _ _ c.put_number_sent-end_teid.ensures.value)
+pub put_address_sent-end_ipv4-requires : goal.put_address_sent-end_ipv4-requires
+put_address_sent-end_ipv4-requires c = omega (arith, most _ _ _ _ c.put_number_sent-end_teid.ensures.value)
 
-pub put_ipv6_sent-end_ipv6-requires : goal.put_ipv6_sent-end_ipv6-requires
-put_ipv6_sent-end_ipv6-requires c =
-    omega (arith, most _ _ _ _ c.put_ipv4_sent-end_ipv4.ensures.value, most _ _ _ _ c.put_number_sent-end_teid.ensures.value)
+pub put_address_sent-end_ipv6-requires : goal.put_address_sent-end_ipv6-requires
+put_address_sent-end_ipv6-requires c =
+    omega (arith, most _ _ _ _ c.put_address_sent-end_ipv4.ensures.value, most _ _ _ _ c.put_number_sent-end_teid.ensures.value)
 
 pub put_number_sent-end_port-requires : goal.put_number_sent-end_port-requires
 put_number_sent-end_port-requires c =
-    omega (arith, most _ _ _ _ c.put_ipv6_sent-end_ipv6.ensures.value, most _ _ _ _ c.put_ipv4_sent-end_ipv4.ensures.value, most _ _ _ _ c.put_number_sent-end_teid.ensures.value)
+    omega (arith, most _ _ _ _ c.put_address_sent-end_ipv6.ensures.value, most _ _ _ _ c.put_address_sent-end_ipv4.ensures.value, most _ _ _ _ c.put_number_sent-end_teid.ensures.value)
 
 pub put_number_sent-end_ctag-requires : goal.put_number_sent-end_ctag-requires
 put_number_sent-end_ctag-requires c =
-    omega (arith, most _ _ _ _ c.put_number_sent-end_port.ensures.value, most _ _ _ _ c.put_ipv6_sent-end_ipv6.ensures.value, most _ _ _ _ c.put_ipv4_sent-end_ipv4.ensures.value, most _ _ _ _ c.put_number_sent-end_teid.ensures.value)
+    omega (arith, most _ _ _ _ c.put_number_sent-end_port.ensures.value, most _ _ _ _ c.put_address_sent-end_ipv6.ensures.value, most _ _ _ _ c.put_address_sent-end_ipv4.ensures.value, most _ _ _ _ c.put_number_sent-end_teid.ensures.value)
 
 pub put_number_sent-requires : goal.put_number_sent-requires
 put_number_sent-requires c =
-    omega (arith, most _ _ _ _ c.put_number_sent-end_ctag.ensures.value, most _ _ _ _ c.put_number_sent-end_port.ensures.value, most _ _ _ _ c.put_ipv6_sent-end_ipv6.ensures.value, most _ _ _ _ c.put_ipv4_sent-end_ipv4.ensures.value, most _ _ _ _ c.put_number_sent-end_teid.ensures.value)
+    omega (arith, most _ _ _ _ c.put_number_sent-end_ctag.ensures.value, most _ _ _ _ c.put_number_sent-end_port.ensures.value, most _ _ _ _ c.put_address_sent-end_ipv6.ensures.value, most _ _ _ _ c.put_address_sent-end_ipv4.ensures.value, most _ _ _ _ c.put_number_sent-end_teid.ensures.value)
 
 pub returns : goal.returns
 returns c =
@@ -55,20 +56,20 @@ returns c =
       small = c.ranges.flags.fits;
       flags = c.requires.flags_value;
       given = c.requires.given_value;
-      sent_teid = c.sends_teid.ensures;
-      sent_ipv4 = c.sends_ipv4.ensures;
-      sent_ipv6 = c.sends_ipv6.ensures;
-      sent_port = c.sends_port.ensures;
-      sent_ctag = c.sends_ctag.ensures;
-      sent_stag = c.sends_stag.ensures;
+      sent_teid = search rules;
+      sent_ipv4 = search rules;
+      sent_ipv6 = search rules;
+      sent_port = search rules;
+      sent_ctag = search rules;
+      sent_stag = search rules;
       teid_is = teid_is m teid_at g _ _ _ c.u64_at-teid.ensures c.bit.ensures c.if_set-teid_or_zero.ensures.value;
       port_is = port_is m port_at g _ _ _ c.u64_at-port.ensures c.bit-2.ensures c.if_set-port_or_zero.ensures.value;
       ctag_is = tag_is m ctag_at _ c.u64_at-ctag.ensures;
       stag_is = tag_is m stag_at _ c.u64_at-stag.ensures;
     } in
     let e6 = c.put_number_sent-end_teid.ensures in
-    let e1 = c.put_ipv4_sent-end_ipv4.ensures in
-    let e2 = c.put_ipv6_sent-end_ipv6.ensures in
+    let e1 = c.put_address_sent-end_ipv4.ensures in
+    let e2 = c.put_address_sent-end_ipv6.ensures in
     let e7 = c.put_number_sent-end_port.ensures in
     let e8 = c.put_number_sent-end_ctag.ensures in
     let e9 = c.put_number_sent.ensures in

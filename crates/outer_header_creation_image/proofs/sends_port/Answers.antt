@@ -1,7 +1,0 @@
--- `outer_header_creation_image::sends_port` meets its contract: it is that field of `sends`.
-use mathlib.Core.Path.{ap}
-use Rattle.outer_header_creation.specs.declared.SentFields.{SentFields}
-use Rattle.outer_header_creation_image.proofs.sends_port.Goals as goal
-
-pub returns : goal.returns
-returns c = ap (λ (s : SentFields). s.port) c.sends-sends.ensures

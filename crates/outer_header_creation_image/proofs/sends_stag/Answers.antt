@@ -1,7 +1,0 @@
--- `outer_header_creation_image::sends_stag` meets its contract: it is that field of `sends`.
-use mathlib.Core.Path.{ap}
-use Rattle.outer_header_creation.specs.declared.SentFields.{SentFields}
-use Rattle.outer_header_creation_image.proofs.sends_stag.Goals as goal
-
-pub returns : goal.returns
-returns c = ap (λ (s : SentFields). s.stag) c.sends-sends.ensures
