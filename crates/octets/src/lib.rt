@@ -245,7 +245,14 @@ pub fn number_of<const W: usize>(bs: &[u8]) -> Option<u64>
     Some(number(bs))
 }
 
-// The same as a number of two or of four bytes.
+// The same as a number of one, of two or of four bytes.
+pub fn u8_of(bs: &[u8]) -> Option<u8>
+    ensures { result ≡ number_of 1 bs.now }
+{
+    let x = number_of::<1>(bs)?;
+    Some(x as u8)
+}
+
 pub fn u16_of(bs: &[u8]) -> Option<u16>
     ensures { result ≡ number_of 2 bs.now }
 {

@@ -7,7 +7,7 @@ use mathlib.Core.List.{List, flatten, append-nil}
 use lib.Dec.{lit<}
 use lib.ListN.{length, get_or, take}
 use Rattle.octets.specs.Octets.{bit, if_set, Bytes, field}
-use Rattle.octets.proofs.Laws.{if_set_le_law, length_field, take_first, bytes_take, bytes_drop, ipv4_bytes, ipv6_bytes, u8_bytes}
+use Rattle.octets.proofs.Laws.{if_set_le_law, length_field, take_first, bytes_take, bytes_drop, address_written, number_written}
 use Rattle.octets.proofs.Masks.{flags_low}
 use Rattle.kind.specs.Layout.{clear}
 use Rattle.kind.specs.Kind.{Reads, Kind}
@@ -71,10 +71,10 @@ rewritten s b h =
       take_first 0 s (omega arith),
       append-nil,
       flags_low 7 f,
-      ipv4_bytes (bit 1 f) (field s 1 u4) (length_field 1 u4 s (omega arith)),
-      ipv6_bytes (bit 0 f) (field s (end4 s) u6) (length_field (end4 s) u6 s (omega arith)),
-      u8_bytes (bit 3 f) 1 (field s (end6 s) ub) (bytes_take ub _ (bytes_drop (end6 s) s b)) (lit< tt) (length_field (end6 s) ub s (omega arith)) (omega arith),
-      u8_bytes (bit 6 f) 1 (field s (end_bits s) up) (bytes_take up _ (bytes_drop (end_bits s) s b)) (lit< tt) (length_field (end_bits s) up s (omega arith)) (omega arith),
+      address_written (bit 1 f) (field s 1 u4) 4 (lit< tt) (length_field 1 u4 s (omega arith)),
+      address_written (bit 0 f) (field s (end4 s) u6) 16 (lit< tt) (length_field (end4 s) u6 s (omega arith)),
+      number_written (bit 3 f) 1 (field s (end6 s) ub) (bytes_take ub _ (bytes_drop (end6 s) s b)) (lit< tt) (length_field (end6 s) ub s (omega arith)) 1 (omega arith),
+      number_written (bit 6 f) 1 (field s (end_bits s) up) (bytes_take up _ (bytes_drop (end_bits s) s b)) (lit< tt) (length_field (end_bits s) up s (omega arith)) 1 (omega arith),
     )
 
 -- the reader follows the layout

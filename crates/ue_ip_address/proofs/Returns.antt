@@ -5,17 +5,16 @@ use mathlib.Core.Path.{◌≡◌, refl, sym, ap, ◌∙◌}
 use mathlib.Core.Bool.{Bool, true, false}
 use mathlib.Core.List.{List}
 use lib.ListN.{length, get_or}
+use Rattle.std.specs.Prelude.{Option, Some, None}
 use Rattle.answer.specs.declared.Answer.TheVariants.{Done, Short, Flags, InputTooLong}
-use Rattle.octets.specs.declared.MaybeIpv4.{MaybeIpv4}
-use Rattle.octets.specs.declared.MaybeIpv6.{MaybeIpv6}
-use Rattle.octets.specs.declared.MaybeU8.{MaybeU8}
-use Rattle.octets.specs.Octets.{pick, bit, if_set, field, ipv4_of, ipv6_of, u8_of}
+use Rattle.answer.specs.declared.Read.{Read}
+use Rattle.octets.specs.Octets.{pick, bit, if_set, field, address_of, number_of}
 use Rattle.kind.proofs.Cases.{stop_long, stop_head, stop_rule, stop_field, all_there, width_if_set_law}
-use Rattle.ue_ip_address.specs.declared.UeIpAddressRead.{UeIpAddressRead}
-use Rattle.ue_ip_address.specs.UeIpAddress.{broken_rule, layout, read, found, refused, record_of}
-use Rattle.ue_ip_address.proofs.Rules.{keeps2}
+use Rattle.ue_ip_address.specs.declared.UeIpAddress.{UeIpAddress}
+use Rattle.ue_ip_address.specs.UeIpAddress.{broken_rule, rule_of, layout, read, found, refused, record_of}
+use Rattle.ue_ip_address.proofs.Rules.{keeps2, rule_given, rule_free}
 
-module _ (s : List ℕ) (r : UeIpAddressRead) where
+module _ (s : List ℕ) (r : Read UeIpAddress) where
   pub too_long : 65535 < length s → r ≡ refused (InputTooLong (length s)) → r ≡ read s
   unfolding read found
   too_long h q = stop_long found layout s r h q
@@ -25,21 +24,24 @@ module _ (s : List ℕ) (r : UeIpAddressRead) where
   no_head h q = stop_head found layout s r (omega arith) h q
 
 -- no rule is broken
-pub free_of : (b k : ℕ) → k ≡ broken_rule b → k ≡ 0 → broken_rule b ≡ 0
-free_of b k e z = sym e ∙ z
+pub free_of : (b : ℕ) {o : Option ℕ} → o ≡ rule_of (broken_rule b) → o ≡ None → broken_rule b ≡ 0
+free_of b e h = rule_free _ e h
 
 -- a payload that has its flags
 module _ (s : List ℕ) (f : length s ≤ 65535) (a : 1 ≤ length s) where
-  pub forbidden : (r : UeIpAddressRead) (k : ℕ) → k ≡ broken_rule (get_or s 0 0) → (k ≡ 0 → ⊥) → r ≡ refused (Flags (get_or s 0 0) k) → r ≡ read s
+  pub forbidden : (r : Read UeIpAddress) (k : ℕ) → k ≡ broken_rule (get_or s 0 0) → (k ≡ 0 → ⊥) → r ≡ refused (Flags (get_or s 0 0) k) → r ≡ read s
   unfolding read found
   forbidden r k e h q = stop_rule found layout s r f k a (sym e) h q
+
+  pub broken : (r : Read UeIpAddress) (k : ℕ) {o : Option ℕ} → o ≡ rule_of (broken_rule (get_or s 0 0)) → o ≡ Some k → r ≡ refused (Flags (get_or s 0 0) k) → r ≡ read s
+  broken r k e h q = let (same, some) = rule_given _ e k h in forbidden r k same some q
 
   -- its fields, one behind the other
   module _ (free : broken_rule (get_or s 0 0) ≡ 0) (v4 : Bool) (u4 : ℕ) (d4 : v4 ≡ bit 1 (get_or s 0 0)) (e4 : u4 ≡ if_set v4 4) where
     w4 : u4 ≡ if_set (bit 1 (get_or s 0 0)) 4
     w4 = width_if_set_law s 1 4 v4 u4 d4 e4
 
-    pub no_ipv4 : (r : UeIpAddressRead) → length s < 1 + u4 → r ≡ refused (Short 1 (1 + u4) (length s)) → r ≡ read s
+    pub no_ipv4 : (r : Read UeIpAddress) → length s < 1 + u4 → r ≡ refused (Short 1 (1 + u4) (length s)) → r ≡ read s
     unfolding read found
     no_ipv4 r g q = stop_field found layout s r f free 0 1 _ 4 _ 1 (1 + u4) refl refl (ap (λ (u : ℕ). 1 + u) w4) a g q
 
@@ -47,7 +49,7 @@ module _ (s : List ℕ) (f : length s ≤ 65535) (a : 1 ≤ length s) where
       w6 : u6 ≡ if_set (bit 0 (get_or s 0 0)) 16
       w6 = width_if_set_law s 0 16 v6 u6 d6 e6
 
-      pub no_ipv6 : (r : UeIpAddressRead) → 1 + u4 ≤ length s → length s < 1 + u4 + u6 → r ≡ refused (Short 2 (1 + u4 + u6) (length s)) → r ≡ read s
+      pub no_ipv6 : (r : Read UeIpAddress) → 1 + u4 ≤ length s → length s < 1 + u4 + u6 → r ≡ refused (Short 2 (1 + u4 + u6) (length s)) → r ≡ read s
       unfolding read found
       no_ipv6 r h g q = stop_field found layout s r f free 1 2 _ 16 _ (1 + u4) (1 + u4 + u6) refl (omega (arith, w4)) (ap (λ (u : ℕ). 1 + u4 + u) w6) h g q
 
@@ -55,7 +57,7 @@ module _ (s : List ℕ) (f : length s ≤ 65535) (a : 1 ≤ length s) where
         wd : ud ≡ if_set (bit 3 (get_or s 0 0)) 1
         wd = width_if_set_law s 3 1 d ud dd ed
 
-        pub no_bits : (r : UeIpAddressRead) → 1 + u4 + u6 ≤ length s → length s < 1 + u4 + u6 + ud → r ≡ refused (Short 3 (1 + u4 + u6 + ud) (length s)) → r ≡ read s
+        pub no_bits : (r : Read UeIpAddress) → 1 + u4 + u6 ≤ length s → length s < 1 + u4 + u6 + ud → r ≡ refused (Short 3 (1 + u4 + u6 + ud) (length s)) → r ≡ read s
         unfolding read found
         no_bits r h g q = stop_field found layout s r f free 2 3 _ 1 _ (1 + u4 + u6) (1 + u4 + u6 + ud) refl (omega (arith, w4, w6)) (ap (λ (u : ℕ). 1 + u4 + u6 + u) wd) h g q
 
@@ -63,12 +65,12 @@ module _ (s : List ℕ) (f : length s ≤ 65535) (a : 1 ≤ length s) where
           wp : up ≡ if_set (bit 6 (get_or s 0 0)) 1
           wp = width_if_set_law s 6 1 p up dp ep
 
-          pub no_prefix : (r : UeIpAddressRead) → 1 + u4 + u6 + ud ≤ length s → length s < 1 + u4 + u6 + ud + up → r ≡ refused (Short 4 (1 + u4 + u6 + ud + up) (length s)) → r ≡ read s
+          pub no_prefix : (r : Read UeIpAddress) → 1 + u4 + u6 + ud ≤ length s → length s < 1 + u4 + u6 + ud + up → r ≡ refused (Short 4 (1 + u4 + u6 + ud + up) (length s)) → r ≡ read s
           unfolding read found
           no_prefix r h g q = stop_field found layout s r f free 3 4 _ 1 _ (1 + u4 + u6 + ud) (1 + u4 + u6 + ud + up) refl (omega (arith, w4, w6, wd)) (ap (λ (u : ℕ). 1 + u4 + u6 + ud + u) wp) h g q
 
           -- the one of the last two that is cut: only one of them is sent
-          pub no_byte : (r : UeIpAddressRead) (k : ℕ) → k ≡ pick d 3 4 → 1 + u4 + u6 ≤ length s → length s < 1 + u4 + u6 + ud + up → r ≡ refused (Short k (1 + u4 + u6 + ud + up) (length s)) → r ≡ read s
+          pub no_byte : (r : Read UeIpAddress) (k : ℕ) → k ≡ pick d 3 4 → 1 + u4 + u6 ≤ length s → length s < 1 + u4 + u6 + ud + up → r ≡ refused (Short k (1 + u4 + u6 + ud + up) (length s)) → r ≡ read s
           unfolding if_set
           no_byte r k e h g q = go d refl
             where
@@ -81,18 +83,18 @@ module _ (s : List ℕ) (f : length s ≤ 65535) (a : 1 ≤ length s) where
               go false t = let none : ud ≡ 0 = rw t at ed in no_prefix r (omega arith) g (rw (rw t at e) at q)
 
           -- with all the fields; n4, n6, nd and np are their widths as a reader states them
-          pub whole : (n4 n6 nd np : ℕ) (a4 : MaybeIpv4) (a6 : MaybeIpv6) (sd c4 c6 : Bool) (bits prefix : MaybeU8)
+          pub whole : (n4 n6 nd np : ℕ) (a4 : Option (List ℕ)) (a6 : Option (List ℕ)) (sd c4 c6 : Bool) (bits prefix : Option ℕ)
               → 1 + u4 + u6 + ud + up ≤ length s
-              → a4 ≡ ipv4_of (field s 1 n4)
+              → a4 ≡ address_of 4 (field s 1 n4)
               → n4 ≡ u4
-              → a6 ≡ ipv6_of (field s (1 + u4) n6)
+              → a6 ≡ address_of 16 (field s (1 + u4) n6)
               → n6 ≡ u6
               → sd ≡ bit 2 (get_or s 0 0)
               → c4 ≡ bit 4 (get_or s 0 0)
               → c6 ≡ bit 5 (get_or s 0 0)
-              → bits ≡ u8_of (field s (1 + u4 + u6) nd)
+              → bits ≡ number_of 1 (field s (1 + u4 + u6) nd)
               → nd ≡ ud
-              → prefix ≡ u8_of (field s (1 + u4 + u6 + ud) np)
+              → prefix ≡ number_of 1 (field s (1 + u4 + u6 + ud) np)
               → np ≡ up
               → record {
                 answer = Done;

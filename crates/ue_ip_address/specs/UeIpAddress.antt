@@ -1,15 +1,13 @@
 -- UE IP Address, as document 01 has it.
-use Rattle.std.specs.Prelude.{ℕ, ◌+◌, Bool, false, not, ◌&&◌, ◌||◌, List, [], ◌∷◌, ◌++◌, get_or}
-use Rattle.std.specs.Prelude.{Option}
+use Rattle.std.specs.Prelude.{ℕ, zero, suc, ◌+◌, Bool, false, not, ◌&&◌, ◌||◌, List, [], ◌∷◌, ◌++◌, get_or}
+use Rattle.std.specs.Prelude.{Option, None, Some, is_some}
 use Rattle.answer.specs.declared.Answer.{Answer}
 use Rattle.answer.specs.declared.Answer.TheVariants.{Done}
-use Rattle.octets.specs.declared.MaybeIpv4.{MaybeIpv4}
-use Rattle.octets.specs.declared.MaybeIpv6.{MaybeIpv6}
-use Rattle.octets.specs.Octets.{pick, bit, if_set, flag_byte, field, bytes_if, number_if, ipv4_of, ipv6_of, u8_of, ipv4_meaning, ipv6_meaning, u8_meaning}
+use Rattle.answer.specs.declared.Read.{Read}
+use Rattle.octets.specs.Octets.{pick, bit, if_set, flag_byte, field, bytes_if, number_if, address_of, number_of}
 use Rattle.kind.specs.Layout.{wanted, Layout, Outcome, accepts, refuses, outcome}
 use Rattle.kind.specs.Kind.{Reader}
 use Rattle.ue_ip_address.specs.declared.UeIpAddress.{UeIpAddress}
-use Rattle.ue_ip_address.specs.declared.UeIpAddressRead.{UeIpAddressRead}
 
 -- what a record means
 pub record Value : Type 0 where
@@ -35,10 +33,10 @@ meaning r =
       chv4 = r.choose_ipv4;
       chv6 = r.choose_ipv6;
       ip6pl = r.ipv6_prefix_length_present;
-      ipv4 = ipv4_meaning r.ipv4_address;
-      ipv6 = ipv6_meaning r.ipv6_address;
-      delegation_bits = u8_meaning r.ipv6_prefix_delegation_bits;
-      prefix_length = u8_meaning r.ipv6_prefix_length;
+      ipv4 = r.ipv4_address;
+      ipv6 = r.ipv6_address;
+      delegation_bits = r.ipv6_prefix_delegation_bits;
+      prefix_length = r.ipv6_prefix_length;
     }
 
 -- the written form: flags (bit 0 V6, 1 V4, 2 S/D, 3 IPv6D, 4 CHV4, 5 CHV6, 6 IP6PL), then the fields that are given
@@ -62,6 +60,11 @@ breaks_rule3 b = (bit 3 b || bit 6 b) && not (bit 0 b || bit 5 b)
 -- the first that it breaks, 0 for none
 unfoldable pub broken_rule : ℕ → ℕ
 broken_rule b = pick (breaks_rule1 b) 1 (pick (breaks_rule2 b) 2 (pick (breaks_rule3 b) 3 0))
+
+-- the same rule, by its number
+unfoldable pub rule_of : ℕ → Option ℕ
+rule_of zero = None
+rule_of (suc n) = Some (suc n)
 
 -- flags, one byte, then IPv4 under V4, IPv6 under V6, one byte under IPv6D, one byte under IP6PL
 abbrev pub layout : Layout
@@ -96,14 +99,14 @@ record_of s =
       choose_ipv4 = flag 4;
       choose_ipv6 = flag 5;
       ipv6_prefix_length_present = flag 6;
-      ipv4_address = ipv4_of (field s 1 (if_set (flag 1) 4));
-      ipv6_address = ipv6_of (field s end4 (if_set (flag 0) 16));
-      ipv6_prefix_delegation_bits = u8_of (field s end6 (if_set (flag 3) 1));
-      ipv6_prefix_length = u8_of (field s end_bits (if_set (flag 6) 1));
+      ipv4_address = address_of 4 (field s 1 (if_set (flag 1) 4));
+      ipv6_address = address_of 16 (field s end4 (if_set (flag 0) 16));
+      ipv6_prefix_delegation_bits = number_of 1 (field s end6 (if_set (flag 3) 1));
+      ipv6_prefix_length = number_of 1 (field s end_bits (if_set (flag 6) 1));
     }
 
 -- a record with these flags and addresses, and nothing else
-abbrev pub addresses_only : (v4 v6 chv4 chv6 : Bool) → MaybeIpv4 → MaybeIpv6 → UeIpAddress
+abbrev pub addresses_only : (v4 v6 chv4 chv6 : Bool) → Option (List ℕ) → Option (List ℕ) → UeIpAddress
 addresses_only v4 v6 chv4 chv6 a4 a6 =
     record {
       v4 = v4;
@@ -115,28 +118,28 @@ addresses_only v4 v6 chv4 chv6 a4 a6 =
       ipv6_prefix_length_present = false;
       ipv4_address = a4;
       ipv6_address = a6;
-      ipv6_prefix_delegation_bits = u8_of [];
-      ipv6_prefix_length = u8_of [];
+      ipv6_prefix_delegation_bits = None;
+      ipv6_prefix_length = None;
     }
 
 -- a new record: V4 and V6 from the addresses given
-unfoldable pub made : MaybeIpv4 → MaybeIpv6 → UeIpAddress
-made a4 a6 = addresses_only a4.given a6.given false false a4 a6
+unfoldable pub made : Option (List ℕ) → Option (List ℕ) → UeIpAddress
+made a4 a6 = addresses_only (is_some a4) (is_some a6) false false a4 a6
 
 -- a record that leaves the choice to the user plane: CHV4 and CHV6, no address
 unfoldable pub choosing : Bool → Bool → UeIpAddress
-choosing ipv4 ipv6 = addresses_only false false ipv4 ipv6 (ipv4_of []) (ipv6_of [])
+choosing ipv4 ipv6 = addresses_only false false ipv4 ipv6 None None
 
 -- a refused read: the empty record and used 0
-unfoldable pub refused : Answer → UeIpAddressRead
-refused a = record { answer = a; used = 0; «record» = addresses_only false false false false (ipv4_of []) (ipv6_of []) }
+unfoldable pub refused : Answer → Read UeIpAddress
+refused a = record { answer = a; used = 0; «record» = addresses_only false false false false None None }
 
-unfoldable pub found : List ℕ → Outcome → UeIpAddressRead
+unfoldable pub found : List ℕ → Outcome → Read UeIpAddress
 found s (accepts n) = record { answer = Done; used = n; «record» = record_of s }
 found s (refuses a) = refused a
 
 -- what reading a payload answers
-unfoldable pub read : List ℕ → UeIpAddressRead
+unfoldable pub read : List ℕ → Read UeIpAddress
 read s = found s (outcome layout s)
 
 abbrev pub reader : Reader Value

@@ -4,10 +4,9 @@
 ghost use Rattle.std.specs.Prelude.{◌≡◌, length};
 ghost use Rattle.octets.specs.Octets.{put};
 ghost use Rattle.answer.specs.Paper.{written};
-ghost use Rattle.ue_ip_address.specs.UeIpAddress.{breaks_rule1, breaks_rule2, breaks_rule3, broken_rule, made, choosing, meaning, wire, max_len, read, refused};
+ghost use Rattle.ue_ip_address.specs.UeIpAddress.{breaks_rule1, breaks_rule2, breaks_rule3, broken_rule, rule_of, made, choosing, meaning, wire, max_len, read, refused};
 
-use answer::{Answer, Written};
-use octets::{MaybeIpv4, MaybeIpv6, MaybeU8};
+use answer::{Answer, Read, Written};
 
 #[derive(Clone, Copy)]
 pub struct UeIpAddress {
@@ -18,29 +17,17 @@ pub struct UeIpAddress {
     pub choose_ipv4: bool,
     pub choose_ipv6: bool,
     pub ipv6_prefix_length_present: bool,
-    pub ipv4_address: MaybeIpv4,
-    pub ipv6_address: MaybeIpv6,
-    pub ipv6_prefix_delegation_bits: MaybeU8,
-    pub ipv6_prefix_length: MaybeU8,
-}
-
-// What reading a payload answers; the record is empty where it is refused.
-#[derive(Clone, Copy)]
-pub struct UeIpAddressRead {
-    pub answer: Answer,
-    pub used: usize,
-    pub record: UeIpAddress,
+    pub ipv4_address: Option<[u8; 4]>,
+    pub ipv6_address: Option<[u8; 16]>,
+    pub ipv6_prefix_delegation_bits: Option<u8>,
+    pub ipv6_prefix_length: Option<u8>,
 }
 
 // A refused read.
-fn refused(answer: Answer) -> UeIpAddressRead
+fn refused(answer: Answer) -> Read<UeIpAddress>
     ensures { result ≡ refused answer }
 {
-    UeIpAddressRead {
-        answer,
-        used: 0,
-        record: UeIpAddress::choose(false, false),
-    }
+    Read::refused(answer, UeIpAddress::choose(false, false))
 }
 
 // Whether flags break rule 1: V4 with CHV4, or V6 with CHV6. Most have neither choice, and then one test is enough.
@@ -73,20 +60,20 @@ pub fn breaks_rule_3(flags: u8) -> bool
     octets::both(prefixed, !ipv6)
 }
 
-// The first rule that flags break, 0 for none.
-fn broken_rule(flags: u8) -> u8
-    ensures { result ≡ broken_rule flags }
+// The first rule that flags break.
+fn broken_rule(flags: u8) -> Option<u8>
+    ensures { result ≡ rule_of (broken_rule flags) }
 {
     if breaks_rule_1(flags) {
-        return 1;
+        return Some(1);
     }
     if breaks_rule_2(flags) {
-        return 2;
+        return Some(2);
     }
     if breaks_rule_3(flags) {
-        return 3;
+        return Some(3);
     }
-    0
+    None
 }
 
 impl UeIpAddress {
@@ -103,12 +90,12 @@ impl UeIpAddress {
     }
 
     // V4 and V6 from the addresses given.
-    pub fn new(ipv4_address: MaybeIpv4, ipv6_address: MaybeIpv6) -> UeIpAddress
+    pub fn new(ipv4_address: Option<[u8; 4]>, ipv6_address: Option<[u8; 16]>) -> UeIpAddress
         ensures { result ≡ made ipv4_address ipv6_address }
     {
         UeIpAddress {
-            v4: ipv4_address.given,
-            v6: ipv6_address.given,
+            v4: ipv4_address.is_some(),
+            v6: ipv6_address.is_some(),
             source_destination: false,
             ipv6_prefix_delegation: false,
             choose_ipv4: false,
@@ -116,8 +103,8 @@ impl UeIpAddress {
             ipv6_prefix_length_present: false,
             ipv4_address,
             ipv6_address,
-            ipv6_prefix_delegation_bits: MaybeU8::ABSENT,
-            ipv6_prefix_length: MaybeU8::ABSENT,
+            ipv6_prefix_delegation_bits: None,
+            ipv6_prefix_length: None,
         }
     }
 
@@ -125,13 +112,14 @@ impl UeIpAddress {
     pub fn choose(ipv4: bool, ipv6: bool) -> UeIpAddress
         ensures { result ≡ choosing ipv4 ipv6 }
     {
-        let mut chosen = UeIpAddress::new(MaybeIpv4::ABSENT, MaybeIpv6::ABSENT);
-        chosen.choose_ipv4 = ipv4;
-        chosen.choose_ipv6 = ipv6;
-        chosen
+        UeIpAddress {
+            choose_ipv4: ipv4,
+            choose_ipv6: ipv6,
+            ..UeIpAddress::new(None, None)
+        }
     }
 
-    pub fn unmarshal(payload: &[u8]) -> UeIpAddressRead
+    pub fn unmarshal(payload: &[u8]) -> Read<UeIpAddress>
         ensures { result ≡ read payload.now }
     {
         let n = payload.len();
@@ -146,8 +134,7 @@ impl UeIpAddress {
             });
         }
         let flags = payload[0];
-        let rule = broken_rule(flags);
-        if rule != 0 {
+        if let Some(rule) = broken_rule(flags) {
             return refused(Answer::Flags { byte: flags, rule });
         }
         let v4 = octets::bit(flags, 1);
@@ -186,9 +173,7 @@ impl UeIpAddress {
                 actual: n,
             });
         }
-        let ipv4_address = MaybeIpv4::of(&payload[1..end4]);
-        let ipv6_address = MaybeIpv6::of(&payload[end4..end6]);
-        UeIpAddressRead {
+        Read {
             answer: Answer::Done,
             used: end,
             record: UeIpAddress {
@@ -199,10 +184,10 @@ impl UeIpAddress {
                 choose_ipv4: octets::bit(flags, 4),
                 choose_ipv6: octets::bit(flags, 5),
                 ipv6_prefix_length_present: ip6pl,
-                ipv4_address,
-                ipv6_address,
-                ipv6_prefix_delegation_bits: MaybeU8::of(&payload[end6..end_bits]),
-                ipv6_prefix_length: MaybeU8::of(&payload[end_bits..end]),
+                ipv4_address: octets::address(&payload[1..end4]),
+                ipv6_address: octets::address(&payload[end4..end6]),
+                ipv6_prefix_delegation_bits: octets::u8_of(&payload[end6..end_bits]),
+                ipv6_prefix_length: octets::u8_of(&payload[end_bits..end]),
             },
         }
     }
@@ -215,10 +200,10 @@ impl UeIpAddress {
         let ipv6_address = self.ipv6_address;
         let bits = self.ipv6_prefix_delegation_bits;
         let prefix = self.ipv6_prefix_length;
-        let end4 = UeIpAddress::MIN_LEN + octets::if_set(ipv4_address.given, 4);
-        let end6 = end4 + octets::if_set(ipv6_address.given, 16);
-        let end_bits = end6 + octets::if_set(bits.given, 1);
-        let end = end_bits + octets::if_set(prefix.given, 1);
+        let end4 = UeIpAddress::MIN_LEN + octets::if_set(ipv4_address.is_some(), 4);
+        let end6 = end4 + octets::if_set(ipv6_address.is_some(), 16);
+        let end_bits = end6 + octets::if_set(bits.is_some(), 1);
+        let end = end_bits + octets::if_set(prefix.is_some(), 1);
         if out.len() < end {
             return Written {
                 answer: Answer::NoRoom { needed: end },
@@ -236,10 +221,10 @@ impl UeIpAddress {
             false,
         );
         octets::put_byte(out, 0, flags);
-        octets::put_ipv4(out, 1, ipv4_address);
-        octets::put_ipv6(out, end4, ipv6_address);
-        octets::put_number_given(out, end6, 1, bits.given, bits.value as u64);
-        octets::put_number_given(out, end_bits, 1, prefix.given, prefix.value as u64);
+        octets::put_address(out, 1, ipv4_address);
+        octets::put_address(out, end4, ipv6_address);
+        octets::put_number_if(out, end6, 1, bits.map(u64::from));
+        octets::put_number_if(out, end_bits, 1, prefix.map(u64::from));
         Written {
             answer: Answer::Done,
             len: end,

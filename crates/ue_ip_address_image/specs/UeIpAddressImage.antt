@@ -1,12 +1,13 @@
 -- The UE IP Address in a record image: the head, then the fields, each at its place.
-use Rattle.std.specs.Prelude.{ℕ, ◌+◌, Bool, List, [], ◌∷◌, ◌++◌, length, get_or}
+use Rattle.std.specs.Prelude.{ℕ, ◌+◌, Bool, List, [], ◌∷◌, ◌++◌, length, get_or, is_some, unwrap_or}
+use Rattle.std.specs.Bool.{then_some}
+use Rattle.answer.specs.declared.Read.{Read}
 use Rattle.answer.specs.declared.Written.{Written}
 use Rattle.answer.specs.Paper.{written}
-use Rattle.octets.specs.Octets.{bit, if_set, flag_byte, field, ipv4_of, ipv6_of, put}
+use Rattle.octets.specs.Octets.{bit, if_set, flag_byte, field, address_of, put}
 use Rattle.ue_ip_address.specs.declared.UeIpAddress.{UeIpAddress}
-use Rattle.ue_ip_address.specs.declared.UeIpAddressRead.{UeIpAddressRead}
 use Rattle.ue_ip_address.specs.UeIpAddress.{meaning, wire}
-use Rattle.image.specs.Image.{head_size, bytes_or_zeros, head}
+use Rattle.image.specs.Image.{head_size, address_bytes, head}
 
 -- flags, a byte: bit 0 V6, 1 V4, 2 S/D, 3 IPv6D, 4 CHV4, 5 CHV6, 6 IP6PL
 abbrev pub flags_at : ℕ
@@ -34,7 +35,7 @@ ipv6_at = ipv4_at + 4
 abbrev pub size : ℕ
 size = ipv6_at + 16
 
--- the bytes of a record
+-- the bytes of a record: zeros where a field is absent
 unfoldable pub record_image : UeIpAddress → List ℕ
 record_image r =
     flag_byte
@@ -47,18 +48,17 @@ record_image r =
     ∷ r.ipv6_prefix_length_present
     ∷ [])
     ∷ flag_byte
-    (r.ipv4_address.given
-    ∷ r.ipv6_address.given
-    ∷ r.ipv6_prefix_delegation_bits.given
-    ∷ r.ipv6_prefix_length.given
+    (is_some r.ipv4_address
+    ∷ is_some r.ipv6_address
+    ∷ is_some r.ipv6_prefix_delegation_bits
+    ∷ is_some r.ipv6_prefix_length
     ∷ [])
-    ∷ r.ipv6_prefix_delegation_bits.value
-    ∷ r.ipv6_prefix_length.value
-    ∷ (bytes_or_zeros 4 r.ipv4_address.given r.ipv4_address.octets
-    ++ bytes_or_zeros 16 r.ipv6_address.given r.ipv6_address.octets)
+    ∷ unwrap_or r.ipv6_prefix_delegation_bits 0
+    ∷ unwrap_or r.ipv6_prefix_length 0
+    ∷ (address_bytes 4 r.ipv4_address ++ address_bytes 16 r.ipv6_address)
 
 -- the image of what a read answered
-abbrev pub image_of : UeIpAddressRead → List ℕ
+abbrev pub image_of : Read UeIpAddress → List ℕ
 image_of r = head r.answer r.used ++ record_image r.«record»
 
 -- the record that stands in an image
@@ -74,10 +74,10 @@ record_at m =
       choose_ipv4 = flag 4;
       choose_ipv6 = flag 5;
       ipv6_prefix_length_present = flag 6;
-      ipv4_address = ipv4_of (field m ipv4_at (if_set (given 0) 4));
-      ipv6_address = ipv6_of (field m ipv6_at (if_set (given 1) 16));
-      ipv6_prefix_delegation_bits = record { given = given 2; value = get_or m bits_at 0 };
-      ipv6_prefix_length = record { given = given 3; value = get_or m prefix_at 0 };
+      ipv4_address = address_of 4 (field m ipv4_at (if_set (given 0) 4));
+      ipv6_address = address_of 16 (field m ipv6_at (if_set (given 1) 16));
+      ipv6_prefix_delegation_bits = then_some (given 2) (get_or m bits_at 0);
+      ipv6_prefix_length = then_some (given 3) (get_or m prefix_at 0);
     }
 
 -- what writing that record answers, and the output that it leaves

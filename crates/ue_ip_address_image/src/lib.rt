@@ -6,12 +6,10 @@ ghost use Rattle.answer.specs.declared.Answer.TheVariants.{Done};
 ghost use Rattle.answer.specs.Paper.{number_of};
 ghost use Rattle.octets.specs.Octets.{pick, bit, put};
 ghost use Rattle.image.specs.Image.{head, read_number, read_image, long_enough, write_number, write_output, write_report};
-ghost use Rattle.image.specs.Steps.{ZerosIfAbsent4, ZerosIfAbsent6};
 ghost use Rattle.ue_ip_address.specs.UeIpAddress.{breaks_rule1, broken_rule, read};
 ghost use Rattle.ue_ip_address_image.specs.UeIpAddressImage.{size, record_image, image_of, record_at, writes, stores};
 
 use answer::Answer;
-use octets::{MaybeIpv4, MaybeIpv6, MaybeU8};
 use ue_ip_address::UeIpAddress;
 
 // Where each field of an image stands, and how long an image is.
@@ -29,28 +27,19 @@ const IPV6: usize = IPV4 + 4;
 
 pub const SIZE: usize = IPV6 + 16;
 
-// Puts the image of a read that is done, from the back to the front. The test tells the compiler what `requires` says, so that no
-// put tests the room again.
+// Puts the image of a read that is done, from the back to the front. The test tells the compiler that there is room, so that no put
+// tests it again.
 fn put_image(out: &mut [u8], used: usize, record: UeIpAddress)
-    requires size_in_bounds { size ≤ length out.old }
-    requires zeros_if_absent4 { ZerosIfAbsent4 «record».ipv4_address }
-    requires zeros_if_absent6 { ZerosIfAbsent6 «record».ipv6_address }
     ensures { out.new ≡ put out.old 0 (head Done used ++ record_image «record») }
 {
     if out.len() < SIZE {
         return;
     }
-    let ipv4_address = record.ipv4_address;
-    let ipv6_address = record.ipv6_address;
-    let octets4 = ipv4_address.octets;
-    let octets6 = ipv6_address.octets;
-    let bits = record.ipv6_prefix_delegation_bits;
-    let prefix = record.ipv6_prefix_length;
     let given = octets::flag_byte(
-        ipv4_address.given,
-        ipv6_address.given,
-        bits.given,
-        prefix.given,
+        record.ipv4_address.is_some(),
+        record.ipv6_address.is_some(),
+        record.ipv6_prefix_delegation_bits.is_some(),
+        record.ipv6_prefix_length.is_some(),
         false,
         false,
         false,
@@ -66,10 +55,10 @@ fn put_image(out: &mut [u8], used: usize, record: UeIpAddress)
         record.ipv6_prefix_length_present,
         false,
     );
-    octets::put_bytes(out, IPV6, &octets6);
-    octets::put_bytes(out, IPV4, &octets4);
-    octets::put_byte(out, PREFIX, prefix.value);
-    octets::put_byte(out, BITS, bits.value);
+    image::put_address(out, IPV6, record.ipv6_address);
+    image::put_address(out, IPV4, record.ipv4_address);
+    octets::put_byte(out, PREFIX, record.ipv6_prefix_length.unwrap_or(0));
+    octets::put_byte(out, BITS, record.ipv6_prefix_delegation_bits.unwrap_or(0));
     octets::put_byte(out, GIVEN, given);
     octets::put_byte(out, FLAGS, flags);
     image::put_head(out, Answer::Done, used);
@@ -94,7 +83,6 @@ fn read_fields(
     ipv6d: bool,
     ip6pl: bool,
 ) -> u64
-    requires size_in_bounds { size ≤ length image.old }
     requires in_bounds { 1 ≤ length payload.now }
     requires payload_len_bound { length payload.now ≤ 65535 }
     requires payload_value { broken_rule (get_or payload.now 0 0) ≡ 0 }
@@ -120,8 +108,6 @@ fn read_fields(
         return image::put_short(image, SIZE, last_field(ipv6d), end, n);
     }
     let flags = payload[0];
-    let ipv4_address = MaybeIpv4::of(&payload[1..end4]);
-    let ipv6_address = MaybeIpv6::of(&payload[end4..end6]);
     let record = UeIpAddress {
         v4,
         v6,
@@ -130,10 +116,10 @@ fn read_fields(
         choose_ipv4: octets::bit(flags, 4),
         choose_ipv6: octets::bit(flags, 5),
         ipv6_prefix_length_present: ip6pl,
-        ipv4_address,
-        ipv6_address,
-        ipv6_prefix_delegation_bits: MaybeU8::of(&payload[end6..end_bits]),
-        ipv6_prefix_length: MaybeU8::of(&payload[end_bits..end]),
+        ipv4_address: octets::address(&payload[1..end4]),
+        ipv6_address: octets::address(&payload[end4..end6]),
+        ipv6_prefix_delegation_bits: octets::u8_of(&payload[end6..end_bits]),
+        ipv6_prefix_length: octets::u8_of(&payload[end_bits..end]),
     };
     put_image(image, end, record);
     0
@@ -141,7 +127,6 @@ fn read_fields(
 
 // Reads a payload without IPv6D and IP6PL, by V4 and V6.
 fn read_addresses(payload: &[u8], image: &mut [u8]) -> u64
-    requires size_in_bounds { size ≤ length image.old }
     requires in_bounds { 1 ≤ length payload.now }
     requires payload_len_bound { length payload.now ≤ 65535 }
     requires payload_value { broken_rule (get_or payload.now 0 0) ≡ 0 }
@@ -166,7 +151,6 @@ fn read_addresses(payload: &[u8], image: &mut [u8]) -> u64
 
 // Reads a payload with IPv6D or IP6PL, which keeps rule 1.
 fn read_prefixed(payload: &[u8], image: &mut [u8]) -> u64
-    requires size_in_bounds { size ≤ length image.old }
     requires in_bounds { 1 ≤ length payload.now }
     requires payload_len_bound { length payload.now ≤ 65535 }
     requires payload_value { breaks_rule1 (get_or payload.now 0 0) ≡ false }
@@ -195,8 +179,6 @@ fn record_at(image: &[u8]) -> UeIpAddress
 {
     let flags = image::byte_at(image, FLAGS);
     let given = image::byte_at(image, GIVEN);
-    let ipv4_address = image::ipv4_at(image, IPV4, octets::bit(given, 0));
-    let ipv6_address = image::ipv6_at(image, IPV6, octets::bit(given, 1));
     UeIpAddress {
         v4: octets::bit(flags, 1),
         v6: octets::bit(flags, 0),
@@ -205,16 +187,10 @@ fn record_at(image: &[u8]) -> UeIpAddress
         choose_ipv4: octets::bit(flags, 4),
         choose_ipv6: octets::bit(flags, 5),
         ipv6_prefix_length_present: octets::bit(flags, 6),
-        ipv4_address,
-        ipv6_address,
-        ipv6_prefix_delegation_bits: MaybeU8 {
-            given: octets::bit(given, 2),
-            value: image::byte_at(image, BITS),
-        },
-        ipv6_prefix_length: MaybeU8 {
-            given: octets::bit(given, 3),
-            value: image::byte_at(image, PREFIX),
-        },
+        ipv4_address: image::address_at(image, IPV4, octets::bit(given, 0)),
+        ipv6_address: image::address_at(image, IPV6, octets::bit(given, 1)),
+        ipv6_prefix_delegation_bits: octets::bit(given, 2).then_some(image::byte_at(image, BITS)),
+        ipv6_prefix_length: octets::bit(given, 3).then_some(image::byte_at(image, PREFIX)),
     }
 }
 
@@ -250,6 +226,5 @@ pub fn write(image: &[u8], out: &mut [u8], report: &mut [u8]) -> u64
     if !image::long_enough(SIZE, image.len(), report.len()) {
         return 8;
     }
-    let record = record_at(image);
-    image::put_report(report, record.marshal(out))
+    image::put_report(report, record_at(image).marshal(out))
 }

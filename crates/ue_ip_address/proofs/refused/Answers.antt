@@ -4,4 +4,4 @@ use Rattle.ue_ip_address.proofs.refused.Goals as goal
 
 pub returns : goal.returns
 unfolding choosing refused
-returns c = rw c.choose.ensures
+returns c = rw (c.refused.ensures, c.choose.ensures)

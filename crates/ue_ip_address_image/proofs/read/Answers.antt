@@ -42,7 +42,7 @@ pub read_prefixed-requires : goal.read_prefixed-requires
 read_prefixed-requires c =
     let b = get_or c.args.payload.now 0 0 in
     let set = flagged b c.bit.ensures c.bit-2.ensures c.either.ensures c.if-either.true in
-    record { size_in_bounds = search rules; in_bounds = search rules; payload_len_bound = search rules; payload_value = search kept; payload_value_2 = set }
+    record { in_bounds = search rules; payload_len_bound = search rules; payload_value = search kept; payload_value_2 = set }
 
 pub returns-then-either : goal.returns-then-either
 returns-then-either c = let all = read_long _ _ _ (search rules) (c.read_prefixed.ensures.value, c.read_prefixed.ensures.image_after) in record { value = all.0; image_after = all.1 }
@@ -51,7 +51,7 @@ pub read_addresses-requires : goal.read_addresses-requires
 read_addresses-requires c =
     let b = get_or c.args.payload.now 0 0 in
     let unset = flagged b c.bit.ensures c.bit-2.ensures c.either.ensures c.if-either.false in let all = no_prefix b (search kept) unset in
-    record { size_in_bounds = search rules; in_bounds = search rules; payload_len_bound = search rules; payload_value = all.0; false_value = all.1.0; false_value_2 = all.1.1 }
+    record { in_bounds = search rules; payload_len_bound = search rules; payload_value = all.0; false_value = all.1.0; false_value_2 = all.1.1 }
 
 pub returns : goal.returns
 returns c = let all = read_long _ _ _ (search rules) (c.read_addresses.ensures.value, c.read_addresses.ensures.image_after) in record { value = all.0; image_after = all.1 }

@@ -1,7 +1,6 @@
 -- `ue_ip_address_image::read_fields` meets its contract: at each return, the tests that led there and what the calls handed over.
 use native.Mathlib.Nat.{add-sub_cancel_left}
 use Rattle.ue_ip_address.proofs.Returns.{no_ipv4, no_ipv6, no_byte, whole}
-use Rattle.image.proofs.Laws.{zeros4, zeros6}
 use Rattle.ue_ip_address_image.proofs.Reading.{refusal, accepted}
 use Rattle.ue_ip_address_image.proofs.read_fields.Goals as goal
 
@@ -14,15 +13,11 @@ returns-then-n-end6 c = let all = refusal _ _ _ (c.put_short-then-n-end6.ensures
 pub returns-then-n-end : goal.returns-then-n-end
 returns-then-n-end c = let all = refusal _ _ _ (c.put_short-then-n-end.ensures.value, c.put_short-then-n-end.ensures.out_after) (search no_byte) in record { value = all.0; image_after = all.1 }
 
-pub put_image-requires : goal.put_image-requires
-put_image-requires c =
-    record { size_in_bounds = c.requires.size_in_bounds; zeros_if_absent4 = zeros4 _ _ c.of-ipv4_address.ensures; zeros_if_absent6 = zeros6 _ _ c.of-ipv6_address.ensures }
-
 pub returns : goal.returns
 returns c =
     let r = c.requires in let all = accepted _ _ c.put_image.ensures
     (whole _ r.payload_len_bound r.in_bounds r.payload_value _ _ r.v4_value c.if_set-end4.ensures.value _ _ r.v6_value c.if_set.ensures.value _ _ r.ipv6d_value c.if_set-2.ensures.value _ _ r.ip6pl_value c.if_set-3.ensures.value
     _ _ _ _ _ _ _ _ _ _ _ c.if-n-end.false
-    c.of-ipv4_address.ensures (add-sub_cancel_left _ _) c.of-ipv6_address.ensures (add-sub_cancel_left _ _)
+    c.address.ensures (add-sub_cancel_left _ _) c.address-2.ensures (add-sub_cancel_left _ _)
     c.bit.ensures c.bit-2.ensures c.bit-3.ensures
-    c.of.ensures (add-sub_cancel_left _ _) c.of-2.ensures (add-sub_cancel_left _ _)) in record { value = all.0; image_after = all.1 }
+    c.u8_of.ensures (add-sub_cancel_left _ _) c.u8_of-2.ensures (add-sub_cancel_left _ _)) in record { value = all.0; image_after = all.1 }

@@ -10,4 +10,4 @@ returns-then-not-long_enough c = let all = write_short _ _ _ _ c.long_enough.ens
 
 pub returns : goal.returns
 unfolding writes stores
-returns c = let all = write_long _ _ c.long_enough.ensures c.if-not-long_enough.false-raw (writes_same (λ (x : UeIpAddress). wire (meaning x)) _ c.record_at-record.ensures (c.marshal.ensures.value, c.marshal.ensures.out_after)) (c.put_report.ensures.value, c.put_report.ensures.out_after) in record { value = all.0; out_after = all.1.0; report_after = all.1.1 }
+returns c = let all = write_long _ _ c.long_enough.ensures c.if-not-long_enough.false-raw (writes_same (λ (x : UeIpAddress). wire (meaning x)) _ c.record_at.ensures (c.marshal.ensures.value, c.marshal.ensures.out_after)) (c.put_report.ensures.value, c.put_report.ensures.out_after) in record { value = all.0; out_after = all.1.0; report_after = all.1.1 }

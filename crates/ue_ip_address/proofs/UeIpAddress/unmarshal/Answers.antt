@@ -1,7 +1,6 @@
 -- `ue_ip_address::UeIpAddress::unmarshal` meets its contract: at each return, the tests that led there and what the calls handed over.
 use native.Mathlib.Nat.{add-sub_cancel_left}
-use mathlib.Core.Path.{sym, ◌∙◌}
-use Rattle.ue_ip_address.proofs.Returns.{too_long, no_head, forbidden, free_of, no_ipv4, no_ipv6, no_bits, no_prefix, whole}
+use Rattle.ue_ip_address.proofs.Returns.{too_long, no_head, broken, free_of, no_ipv4, no_ipv6, no_bits, no_prefix, whole}
 use Rattle.ue_ip_address.proofs.UeIpAddress.unmarshal.Goals as goal
 
 pub returns-then-n-gt65535 : goal.returns-then-n-gt65535
@@ -10,8 +9,8 @@ returns-then-n-gt65535 c = search too_long
 pub returns-then-n-lt-MIN_LEN : goal.returns-then-n-lt-MIN_LEN
 returns-then-n-lt-MIN_LEN c = search no_head
 
-pub returns-then-rule-ne0 : goal.returns-then-rule-ne0
-returns-then-rule-ne0 c = search forbidden
+pub returns-in-Some : goal.returns-in-Some
+returns-in-Some c = search broken
 
 pub returns-then-n-end4 : goal.returns-then-n-end4
 returns-then-n-end4 c = search (no_ipv4, free_of)
@@ -27,12 +26,12 @@ returns-then-n-end c = search (no_prefix, free_of)
 
 pub returns : goal.returns
 returns c =
-    whole _ c.if-n-gt65535.false c.if-n-lt-MIN_LEN.false (sym c.broken_rule-rule.ensures ∙ c.if-rule-ne0.false)
+    whole _ c.if-n-gt65535.false c.if-n-lt-MIN_LEN.false (free_of _ c.broken_rule.ensures c.in_default.is)
     _ _ c.bit-v4.ensures c.if_set-end4.ensures.value
     _ _ c.bit-v6.ensures c.if_set.ensures.value
     _ _ c.bit-ipv6d.ensures c.if_set-2.ensures.value
     _ _ c.bit-ip6pl.ensures c.if_set-3.ensures.value
     _ _ _ _ _ _ _ _ _ _ _ c.if-n-end.false
-    c.of-ipv4_address.ensures (add-sub_cancel_left _ _) c.of-ipv6_address.ensures (add-sub_cancel_left _ _)
+    c.address.ensures (add-sub_cancel_left _ _) c.address-2.ensures (add-sub_cancel_left _ _)
     c.bit.ensures c.bit-2.ensures c.bit-3.ensures
-    c.of.ensures (add-sub_cancel_left _ _) c.of-2.ensures (add-sub_cancel_left _ _)
+    c.u8_of.ensures (add-sub_cancel_left _ _) c.u8_of-2.ensures (add-sub_cancel_left _ _)
