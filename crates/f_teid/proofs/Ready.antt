@@ -5,18 +5,18 @@ use mathlib.Core.Path.{◌≡◌, refl}
 use mathlib.Core.Bool.{Bool, true, false, ◌||◌}
 use Rattle.answer.specs.declared.Answer.TheVariants.{Done}
 use Rattle.types.specs.declared.Teid.{Teid}
-use Rattle.octets.specs.declared.MaybeIpv4.{MaybeIpv4}
-use Rattle.octets.specs.declared.MaybeIpv6.{MaybeIpv6}
+use mathlib.Core.List.{List}
+use Rattle.std.specs.Prelude.{Option, is_some}
 use Rattle.f_teid.specs.Fteid.{made, of_choice}
 use Rattle.f_teid.specs.Builder.{fresh, with_teid, with_addresses, with_choices, broken, built_of, built_by, built}
 
 -- a TEID and one address or both
-pub addresses_built : (teid : Teid) (a4 : MaybeIpv4) (a6 : MaybeIpv6) → a4.given || a6.given ≡ true
-    → built (with_addresses (with_teid fresh teid) a4 a6) ≡ record { answer = Done; «record» = made a4.given a6.given teid a4 a6 }
+pub addresses_built : (teid : Teid) (a4 a6 : Option (List ℕ)) → is_some a4 || is_some a6 ≡ true
+    → built (with_addresses (with_teid fresh teid) a4 a6) ≡ record { answer = Done; «record» = made (is_some a4) (is_some a6) teid a4 a6 }
 unfolding built built_by built_of broken
-addresses_built teid a4 a6 e = go a4.given a6.given refl refl
+addresses_built teid a4 a6 e = go (is_some a4) (is_some a6) refl refl
   where
-    go : (g4 g6 : Bool) → a4.given ≡ g4 → a6.given ≡ g6 → built (with_addresses (with_teid fresh teid) a4 a6) ≡ record { answer = Done; «record» = made a4.given a6.given teid a4 a6 }
+    go : (g4 g6 : Bool) → is_some a4 ≡ g4 → is_some a6 ≡ g6 → built (with_addresses (with_teid fresh teid) a4 a6) ≡ record { answer = Done; «record» = made (is_some a4) (is_some a6) teid a4 a6 }
     go true true p q = simp (p, q)
     go true false p q = simp (p, q)
     go false true p q = simp (p, q)

@@ -1,16 +1,13 @@
 -- F-TEID, as document 01 has it.
-use Rattle.std.specs.Prelude.{ℕ, ◌+◌, Bool, true, false, ◌&&◌, List, [], ◌∷◌, ◌++◌, get_or, replicate}
-use Rattle.std.specs.Prelude.{Option}
+use Rattle.std.specs.Prelude.{ℕ, ◌+◌, Bool, true, false, ◌&&◌, List, [], ◌∷◌, ◌++◌, get_or, Option, None}
 use Rattle.answer.specs.declared.Answer.{Answer}
 use Rattle.answer.specs.declared.Answer.TheVariants.{Done}
+use Rattle.answer.specs.declared.Read.{Read}
 use Rattle.types.specs.declared.Teid.{Teid}
-use Rattle.octets.specs.declared.MaybeIpv4.{MaybeIpv4}
-use Rattle.octets.specs.declared.MaybeIpv6.{MaybeIpv6}
-use Rattle.octets.specs.Octets.{pick, bit, if_set, flag_byte, field, big_endian, big_endian_bytes, bytes_if, number_if, presence, ipv4_of, ipv6_of, ipv4_meaning, ipv6_meaning}
+use Rattle.octets.specs.Octets.{pick, bit, if_set, flag_byte, field, big_endian, big_endian_bytes, bytes_if, number_if, presence, address_of}
 use Rattle.kind.specs.Layout.{Wanted, wanted, Layout, Outcome, accepts, refuses, outcome}
 use Rattle.kind.specs.Kind.{Reader}
 use Rattle.f_teid.specs.declared.Fteid.{Fteid}
-use Rattle.f_teid.specs.declared.FteidRead.{FteidRead}
 
 -- what a record means
 pub record Value : Type 0 where
@@ -31,8 +28,8 @@ meaning r =
       ch = r.ch;
       chid = r.chid;
       teid = r.teid.0;
-      ipv4 = ipv4_meaning r.ipv4_address;
-      ipv6 = ipv6_meaning r.ipv6_address;
+      ipv4 = r.ipv4_address;
+      ipv6 = r.ipv6_address;
       choose_id = r.choose_id;
     }
 
@@ -63,21 +60,9 @@ max_len = 1 + 4 + 4 + 16
 abbrev pub kept_bits : List ℕ
 kept_bits = 0x0F ∷ []
 
--- no TEID, addresses that are given, and absent ones
+-- no TEID
 abbrev pub no_teid : Teid
 no_teid = record { 0 = 0 }
-
-abbrev pub given4 : List ℕ → MaybeIpv4
-given4 bs = record { given = true; octets = bs }
-
-abbrev pub given6 : List ℕ → MaybeIpv6
-given6 bs = record { given = true; octets = bs }
-
-abbrev pub no_ipv4 : MaybeIpv4
-no_ipv4 = record { given = false; octets = replicate 4 0 }
-
-abbrev pub no_ipv6 : MaybeIpv6
-no_ipv6 = record { given = false; octets = replicate 16 0 }
 
 -- the record of a payload with CH: no TEID and no addresses
 unfoldable pub chosen_record : List ℕ → Fteid
@@ -89,8 +74,8 @@ chosen_record s =
       ch = bit 2 b;
       chid = bit 3 b;
       teid = no_teid;
-      ipv4_address = no_ipv4;
-      ipv6_address = no_ipv6;
+      ipv4_address = None;
+      ipv6_address = None;
       choose_id = big_endian (field s 1 (if_set (bit 3 b) 1));
     }
 
@@ -104,8 +89,8 @@ concrete_record s =
       ch = bit 2 b;
       chid = bit 3 b;
       teid = record { 0 = big_endian (field s 1 4) };
-      ipv4_address = ipv4_of (field s 5 (if_set (bit 0 b) 4));
-      ipv6_address = ipv6_of (field s (5 + if_set (bit 0 b) 4) (if_set (bit 1 b) 16));
+      ipv4_address = address_of 4 (field s 5 (if_set (bit 0 b) 4));
+      ipv6_address = address_of 16 (field s (5 + if_set (bit 0 b) 4) (if_set (bit 1 b) 16));
       choose_id = 0;
     }
 
@@ -114,7 +99,7 @@ abbrev pub record_of : List ℕ → Fteid
 record_of s = pick (bit 2 (get_or s 0 0)) (chosen_record s) (concrete_record s)
 
 -- a new record: CH, CHID and the choose ID off
-abbrev pub made : Bool → Bool → Teid → MaybeIpv4 → MaybeIpv6 → Fteid
+abbrev pub made : Bool → Bool → Teid → Option (List ℕ) → Option (List ℕ) → Fteid
 made v4 v6 teid a4 a6 =
     record {
       v4 = v4;
@@ -129,25 +114,25 @@ made v4 v6 teid a4 a6 =
 
 -- flags false, numbers 0, optional fields absent
 abbrev pub empty : Fteid
-empty = made false false no_teid no_ipv4 no_ipv6
+empty = made false false no_teid None None
 
 -- a refused read: the empty record and used 0
-unfoldable pub refused : Answer → FteidRead
+unfoldable pub refused : Answer → Read Fteid
 refused a = record { answer = a; used = 0; «record» = empty }
 
-unfoldable pub found : List ℕ → Outcome → FteidRead
+unfoldable pub found : List ℕ → Outcome → Read Fteid
 found s (accepts n) = record { answer = Done; used = n; «record» = record_of s }
 found s (refuses a) = refused a
 
 -- what reading a payload answers
-unfoldable pub read : List ℕ → FteidRead
+unfoldable pub read : List ℕ → Read Fteid
 read s = found s (outcome layout s)
 
 abbrev pub reader : Reader Value
 reader = record { answer = λ s. (read s).answer; used = λ s. (read s).used; value = λ s. meaning (read s).«record» }
 
 -- with CH it has no TEID and no addresses; CHID is kept only with CH, the choose ID only with both
-abbrev pub made_with_choose : Bool → Bool → Bool → Bool → Teid → MaybeIpv4 → MaybeIpv6 → ℕ → Fteid
+abbrev pub made_with_choose : Bool → Bool → Bool → Bool → Teid → Option (List ℕ) → Option (List ℕ) → ℕ → Fteid
 made_with_choose v4 v6 ch chid teid a4 a6 id =
     record {
       v4 = v4;
@@ -155,11 +140,11 @@ made_with_choose v4 v6 ch chid teid a4 a6 id =
       ch = ch;
       chid = ch && chid;
       teid = pick ch no_teid teid;
-      ipv4_address = pick ch no_ipv4 a4;
-      ipv6_address = pick ch no_ipv6 a6;
+      ipv4_address = pick ch None a4;
+      ipv6_address = pick ch None a6;
       choose_id = pick (ch && chid) id 0;
     }
 
 -- the ready-made records of a choice: of IPv4, of IPv6 or of both, and nothing else
 abbrev pub of_choice : Bool → Bool → Fteid
-of_choice v4 v6 = made_with_choose v4 v6 true false no_teid no_ipv4 no_ipv6 0
+of_choice v4 v6 = made_with_choose v4 v6 true false no_teid None None 0

@@ -4,12 +4,11 @@
 ghost use Rattle.std.specs.Prelude.{◌≡◌, true, false, ◌≤◌, ◌<◌, length, get_or};
 ghost use Rattle.octets.specs.Octets.{pick, bit, put};
 ghost use Rattle.answer.specs.Paper.{written};
-ghost use Rattle.f_teid.specs.Fteid.{meaning, wire, max_len, read, refused, empty, given4, given6, no_teid, no_ipv4, no_ipv6, made, made_with_choose, of_choice};
+ghost use Rattle.f_teid.specs.Fteid.{meaning, wire, max_len, read, refused, empty, no_teid, made, made_with_choose, of_choice};
 ghost use Rattle.f_teid.specs.Builder.{fresh, with_teid, with_addresses, with_choices, with_choose_id, broken, built};
 
-use answer::{Answer, Written};
-use octets::{MaybeIpv4, MaybeIpv6, MaybeU8};
-use types::{MaybeTeid, Teid};
+use answer::{Answer, Built, Read, Written};
+use types::Teid;
 
 #[derive(Clone, Copy)]
 pub struct Fteid {
@@ -18,85 +17,42 @@ pub struct Fteid {
     pub ch: bool,
     pub chid: bool,
     pub teid: Teid,
-    pub ipv4_address: MaybeIpv4,
-    pub ipv6_address: MaybeIpv6,
+    pub ipv4_address: Option<[u8; 4]>,
+    pub ipv6_address: Option<[u8; 16]>,
     pub choose_id: u8,
-}
-
-// What reading a payload answers; the record is empty where it is refused.
-#[derive(Clone, Copy)]
-pub struct FteidRead {
-    pub answer: Answer,
-    pub used: usize,
-    pub record: Fteid,
 }
 
 // What a record is built from: the last setting of each field stands.
 #[derive(Clone, Copy)]
 pub struct FteidBuilder {
-    teid: MaybeTeid,
-    ipv4_address: MaybeIpv4,
-    ipv6_address: MaybeIpv6,
+    teid: Option<Teid>,
+    ipv4_address: Option<[u8; 4]>,
+    ipv6_address: Option<[u8; 16]>,
     choose_ipv4: bool,
     choose_ipv6: bool,
-    choose_id: MaybeU8,
-}
-
-// What a build answers; the record is empty where it is refused.
-#[derive(Clone, Copy)]
-pub struct FteidBuilt {
-    pub answer: Answer,
-    pub record: Fteid,
+    choose_id: Option<u8>,
 }
 
 // Where the TEID ends, without CH.
 const TEID_END: usize = Fteid::MIN_LEN + 4;
 
-// A byte where a flag is set, 0 where it isn't.
-fn byte_if_set(flag: bool, b: u8) -> u8
-    ensures { result ≡ pick flag b 0 }
-{
-    if flag { b } else { 0 }
-}
-
-// A TEID, but 0 where a flag is set.
-fn teid_unless(flag: bool, teid: Teid) -> Teid
-    ensures { result ≡ pick flag no_teid teid }
-{
-    if flag {
-        return Teid(0);
-    }
-    teid
-}
-
 // The record of a refusal.
 fn empty() -> Fteid
     ensures { result ≡ empty }
 {
-    Fteid::new(
-        false,
-        false,
-        Teid(0),
-        MaybeIpv4::ABSENT,
-        MaybeIpv6::ABSENT,
-        0,
-    )
+    Fteid::new(false, false, Teid(0), None, None, 0)
 }
 
 // A refused read.
-fn refused(answer: Answer) -> FteidRead
+#[tactic(auto, unfolding(crate::specs::Fteid::refused))]
+fn refused(answer: Answer) -> Read<Fteid>
     ensures { result ≡ refused answer }
 {
-    let record = empty();
-    FteidRead {
-        answer,
-        used: 0,
-        record,
-    }
+    Read::refused(answer, empty())
 }
 
 // Reads a payload with CH: the choose ID at most, since the TEID and the addresses are still to be chosen.
-fn read_chosen(payload: &[u8]) -> FteidRead
+fn read_chosen(payload: &[u8]) -> Read<Fteid>
     requires payload_nonzero { 0 < length payload.now }
     requires payload_len_bound { length payload.now ≤ 65535 }
     requires payload_value { bit 2 (get_or payload.now 0 0) ≡ true }
@@ -116,9 +72,7 @@ fn read_chosen(payload: &[u8]) -> FteidRead
         });
     }
     let choose_id = octets::number(&payload[1..end]) as u8;
-    let ipv4_address = MaybeIpv4::ABSENT;
-    let ipv6_address = MaybeIpv6::ABSENT;
-    FteidRead {
+    Read {
         answer: Answer::Done,
         used: end,
         record: Fteid {
@@ -127,15 +81,15 @@ fn read_chosen(payload: &[u8]) -> FteidRead
             ch: true,
             chid,
             teid: Teid(0),
-            ipv4_address,
-            ipv6_address,
+            ipv4_address: None,
+            ipv6_address: None,
             choose_id,
         },
     }
 }
 
 // Reads a payload without CH and CHID: the TEID, and the addresses under their flags.
-fn read_concrete(payload: &[u8]) -> FteidRead
+fn read_concrete(payload: &[u8]) -> Read<Fteid>
     requires payload_nonzero { 0 < length payload.now }
     requires payload_len_bound { length payload.now ≤ 65535 }
     requires payload_value { bit 2 (get_or payload.now 0 0) ≡ false }
@@ -170,9 +124,9 @@ fn read_concrete(payload: &[u8]) -> FteidRead
         });
     }
     let teid = octets::number(&payload[1..TEID_END]) as u32;
-    let ipv4_address = MaybeIpv4::of(&payload[TEID_END..end4]);
-    let ipv6_address = MaybeIpv6::of(&payload[end4..end6]);
-    FteidRead {
+    let ipv4_address = octets::address(&payload[TEID_END..end4]);
+    let ipv6_address = octets::address(&payload[end4..end6]);
+    Read {
         answer: Answer::Done,
         used: end6,
         record: Fteid {
@@ -203,7 +157,7 @@ fn write_chosen(r: Fteid, out: &mut [u8]) -> Written
     }
     let choose_flags = octets::flag_byte(r.v4, r.v6, true, r.chid, false, false, false, false);
     octets::put_byte(out, 0, choose_flags);
-    octets::put_number_given(out, 1, 1, r.chid, r.choose_id as u64);
+    octets::put_number_if(out, 1, 1, r.chid.then_some(r.choose_id as u64));
     Written {
         answer: Answer::Done,
         len: end,
@@ -218,8 +172,8 @@ fn write_concrete(r: Fteid, out: &mut [u8]) -> Written
 {
     let ipv4_address = r.ipv4_address;
     let ipv6_address = r.ipv6_address;
-    let end4 = TEID_END + octets::if_set(ipv4_address.given, 4);
-    let end6 = end4 + octets::if_set(ipv6_address.given, 16);
+    let end4 = TEID_END + octets::if_set(ipv4_address.is_some(), 4);
+    let end6 = end4 + octets::if_set(ipv6_address.is_some(), 16);
     if out.len() < end6 {
         return Written {
             answer: Answer::NoRoom { needed: end6 },
@@ -229,8 +183,8 @@ fn write_concrete(r: Fteid, out: &mut [u8]) -> Written
     let flags = octets::flag_byte(r.v4, r.v6, false, false, false, false, false, false);
     octets::put_byte(out, 0, flags);
     octets::put_number(out, 1, 4, r.teid.0 as u64);
-    octets::put_ipv4(out, TEID_END, ipv4_address);
-    octets::put_ipv6(out, end4, ipv6_address);
+    octets::put_address(out, TEID_END, ipv4_address);
+    octets::put_address(out, end4, ipv6_address);
     Written {
         answer: Answer::Done,
         len: end6,
@@ -255,8 +209,8 @@ impl Fteid {
         v4: bool,
         v6: bool,
         teid: Teid,
-        ipv4_address: MaybeIpv4,
-        ipv6_address: MaybeIpv6,
+        ipv4_address: Option<[u8; 4]>,
+        ipv6_address: Option<[u8; 16]>,
         _choose_id: u8,
     ) -> Fteid
         ensures { result ≡ made v4 v6 teid ipv4_address ipv6_address }
@@ -280,8 +234,8 @@ impl Fteid {
         ch: bool,
         chid: bool,
         teid: Teid,
-        ipv4_address: MaybeIpv4,
-        ipv6_address: MaybeIpv6,
+        ipv4_address: Option<[u8; 4]>,
+        ipv6_address: Option<[u8; 16]>,
         choose_id: u8,
     ) -> Fteid
         ensures { result ≡ made_with_choose v4 v6 ch chid teid ipv4_address ipv6_address choose_id }
@@ -289,21 +243,19 @@ impl Fteid {
         if !ch {
             return Fteid::new(v4, v6, teid, ipv4_address, ipv6_address, 0);
         }
-        let ipv4_address = MaybeIpv4::ABSENT;
-        let ipv6_address = MaybeIpv6::ABSENT;
         Fteid {
             v4,
             v6,
             ch: true,
             chid,
             teid: Teid(0),
-            ipv4_address,
-            ipv6_address,
-            choose_id: byte_if_set(chid, choose_id),
+            ipv4_address: None,
+            ipv6_address: None,
+            choose_id: if chid { choose_id } else { 0 },
         }
     }
 
-    pub fn unmarshal(payload: &[u8]) -> FteidRead
+    pub fn unmarshal(payload: &[u8]) -> Read<Fteid>
         ensures { result ≡ read payload.now }
     {
         let n = payload.len();
@@ -348,37 +300,21 @@ impl Fteid {
 
     // The ready-made records: what the builder makes of the same settings.
     pub fn ipv4(teid: Teid, addr: [u8; 4]) -> Fteid
-        ensures { result ≡ made true false teid (given4 addr) no_ipv6 }
+        ensures { result ≡ made true false teid (Some addr) None }
     {
-        let given = MaybeIpv4 {
-            given: true,
-            octets: addr,
-        };
-        Fteid::new(true, false, teid, given, MaybeIpv6::ABSENT, 0)
+        Fteid::new(true, false, teid, Some(addr), None, 0)
     }
 
     pub fn ipv6(teid: Teid, addr: [u8; 16]) -> Fteid
-        ensures { result ≡ made false true teid no_ipv4 (given6 addr) }
+        ensures { result ≡ made false true teid None (Some addr) }
     {
-        let given = MaybeIpv6 {
-            given: true,
-            octets: addr,
-        };
-        Fteid::new(false, true, teid, MaybeIpv4::ABSENT, given, 0)
+        Fteid::new(false, true, teid, None, Some(addr), 0)
     }
 
     pub fn dual_stack(teid: Teid, ipv4: [u8; 4], ipv6: [u8; 16]) -> Fteid
-        ensures { result ≡ made true true teid (given4 ipv4) (given6 ipv6) }
+        ensures { result ≡ made true true teid (Some ipv4) (Some ipv6) }
     {
-        let given4 = MaybeIpv4 {
-            given: true,
-            octets: ipv4,
-        };
-        let given6 = MaybeIpv6 {
-            given: true,
-            octets: ipv6,
-        };
-        Fteid::new(true, true, teid, given4, given6, 0)
+        Fteid::new(true, true, teid, Some(ipv4), Some(ipv6), 0)
     }
 
     // A choice has no TEID: the argument doesn't count.
@@ -405,106 +341,75 @@ impl Fteid {
 fn of_choice(v4: bool, v6: bool) -> Fteid
     ensures { result ≡ of_choice v4 v6 }
 {
-    Fteid::new_with_choose(
-        v4,
-        v6,
-        true,
-        false,
-        Teid(0),
-        MaybeIpv4::ABSENT,
-        MaybeIpv6::ABSENT,
-        0,
-    )
+    Fteid::new_with_choose(v4, v6, true, false, Teid(0), None, None, 0)
 }
 
-// The first rule that a builder breaks, 0 for none.
-fn broken(b: FteidBuilder) -> u8
+// The first rule that a builder breaks.
+fn broken(b: FteidBuilder) -> Option<u8>
     ensures { result ≡ broken b }
 {
-    let address = octets::either(b.ipv4_address.given, b.ipv6_address.given);
+    let v4 = b.ipv4_address.is_some();
+    let v6 = b.ipv6_address.is_some();
+    let address = octets::either(v4, v6);
     let choice = octets::either(b.choose_ipv4, b.choose_ipv6);
-    if octets::both(b.ipv4_address.given, b.choose_ipv4) {
-        return 1;
+    if octets::both(v4, b.choose_ipv4) {
+        return Some(1);
     }
-    if octets::both(b.ipv6_address.given, b.choose_ipv6) {
-        return 2;
+    if octets::both(v6, b.choose_ipv6) {
+        return Some(2);
     }
     if !octets::either(address, choice) {
-        return 3;
+        return Some(3);
     }
-    if octets::both(b.choose_id.given, !choice) {
-        return 4;
+    if octets::both(b.choose_id.is_some(), !choice) {
+        return Some(4);
     }
-    if !octets::either(b.teid.given, choice) {
-        return 5;
+    if !octets::either(b.teid.is_some(), choice) {
+        return Some(5);
     }
-    0
+    None
 }
 
 impl FteidBuilder {
     pub fn new() -> FteidBuilder
         ensures { result ≡ fresh }
     {
-        let teid = MaybeTeid::ABSENT;
-        let ipv4_address = MaybeIpv4::ABSENT;
-        let ipv6_address = MaybeIpv6::ABSENT;
-        let choose_id = MaybeU8::ABSENT;
         FteidBuilder {
-            teid,
-            ipv4_address,
-            ipv6_address,
+            teid: None,
+            ipv4_address: None,
+            ipv6_address: None,
             choose_ipv4: false,
             choose_ipv6: false,
-            choose_id,
+            choose_id: None,
         }
     }
 
     pub fn teid(mut self, teid: Teid) -> FteidBuilder
         ensures { result ≡ with_teid self teid }
     {
-        let given = MaybeTeid {
-            given: true,
-            value: teid,
-        };
-        self.teid = given;
+        self.teid = Some(teid);
         self
     }
 
     pub fn ipv4(mut self, addr: [u8; 4]) -> FteidBuilder
-        ensures { result ≡ with_addresses self (given4 addr) self.ipv6_address }
+        ensures { result ≡ with_addresses self (Some addr) self.ipv6_address }
     {
-        let given = MaybeIpv4 {
-            given: true,
-            octets: addr,
-        };
-        self.ipv4_address = given;
+        self.ipv4_address = Some(addr);
         self
     }
 
     pub fn ipv6(mut self, addr: [u8; 16]) -> FteidBuilder
-        ensures { result ≡ with_addresses self self.ipv4_address (given6 addr) }
+        ensures { result ≡ with_addresses self self.ipv4_address (Some addr) }
     {
-        let given = MaybeIpv6 {
-            given: true,
-            octets: addr,
-        };
-        self.ipv6_address = given;
+        self.ipv6_address = Some(addr);
         self
     }
 
     pub fn dual_stack(mut self, ipv4: [u8; 4], ipv6: [u8; 16]) -> FteidBuilder
-        ensures { result ≡ with_addresses self (given4 ipv4) (given6 ipv6) }
+        ensures { result ≡ with_addresses self (Some ipv4) (Some ipv6) }
     {
-        let given4 = MaybeIpv4 {
-            given: true,
-            octets: ipv4,
-        };
-        let given6 = MaybeIpv6 {
-            given: true,
-            octets: ipv6,
-        };
-        self.ipv4_address = given4;
-        self.ipv6_address = given6;
+        self.ipv4_address = Some(ipv4);
+        self.ipv6_address = Some(ipv6);
         self
     }
 
@@ -533,41 +438,37 @@ impl FteidBuilder {
     pub fn choose_id(mut self, id: u8) -> FteidBuilder
         ensures { result ≡ with_choose_id self id }
     {
-        let given = MaybeU8 {
-            given: true,
-            value: id,
-        };
-        self.choose_id = given;
+        self.choose_id = Some(id);
         self
     }
 
     // The record, or the first rule that the settings break. With a choice there is no TEID.
-    pub fn build(self) -> FteidBuilt
+    pub fn build(self) -> Built<Fteid>
         ensures { result ≡ built self }
     {
-        let rule = broken(self);
-        if rule != 0 {
-            let record = empty();
-            return FteidBuilt {
+        if let Some(rule) = broken(self) {
+            return Built {
                 answer: Answer::Unbuilt { rule },
-                record,
+                record: empty(),
             };
         }
-        let ipv4_address = self.ipv4_address;
-        let ipv6_address = self.ipv6_address;
         let ch = octets::either(self.choose_ipv4, self.choose_ipv6);
-        let teid = teid_unless(ch, self.teid.value);
-        FteidBuilt {
+        let teid = if ch {
+            Teid(0)
+        } else {
+            self.teid.unwrap_or(Teid(0))
+        };
+        Built {
             answer: Answer::Done,
             record: Fteid {
-                v4: octets::either(ipv4_address.given, self.choose_ipv4),
-                v6: octets::either(ipv6_address.given, self.choose_ipv6),
+                v4: octets::either(self.ipv4_address.is_some(), self.choose_ipv4),
+                v6: octets::either(self.ipv6_address.is_some(), self.choose_ipv6),
                 ch,
-                chid: self.choose_id.given,
+                chid: self.choose_id.is_some(),
                 teid,
-                ipv4_address,
-                ipv6_address,
-                choose_id: byte_if_set(self.choose_id.given, self.choose_id.value),
+                ipv4_address: self.ipv4_address,
+                ipv6_address: self.ipv6_address,
+                choose_id: self.choose_id.unwrap_or(0),
             },
         }
     }

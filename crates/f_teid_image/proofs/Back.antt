@@ -4,15 +4,17 @@ use native.Mathlib.Omega.{arith}
 use mathlib.Core.Path.{◌≡◌, refl, ap, ◌∙◌}
 use mathlib.Core.Bool.{Bool, false}
 use mathlib.Core.List.{List, [], ◌∷◌}
+use Rattle.std.specs.Prelude.{is_some}
+use lib.Dec.{lit<}
 use lib.ListN.{length, get_or, length-append}
-use Rattle.octets.specs.Octets.{bit, if_set, Bytes, field, big_endian, ipv4_of, ipv6_of}
+use Rattle.octets.specs.Octets.{bit, if_set, Bytes, field, big_endian, address_of}
 use Rattle.kind.specs.Layout.{Outcome, accepts, refuses, outcome}
 use Rattle.f_teid.specs.declared.Fteid.{Fteid}
 use Rattle.f_teid.specs.Fteid.{meaning, wire, layout, chosen_record, concrete_record, refused, found, read}
 use Rattle.f_teid.proofs.OfKind.{kind}
 use Rattle.image.specs.Image.{read_image}
 use Rattle.image.proofs.Laws.{length_little_endian_bytes_law}
-use Rattle.image.proofs.Back.{flag_back, field_below, last, byte, number32, length4, length6, ipv4, ipv6, ImageOf, image_either, image_left, Again}
+use Rattle.image.proofs.Back.{flag_back, field_below, last, byte, number32, length_address, address, ImageOf, image_either, image_left, Again}
 use Rattle.image.proofs.Back as image
 use Rattle.f_teid_image.specs.FteidImage.{size, record_image, image_of, record_at, written_form, writes, stores}
 
@@ -25,8 +27,8 @@ its v4 v6 ch chid x id p q =
       ch = ch;
       chid = chid;
       teid = record { 0 = x };
-      ipv4_address = ipv4_of p;
-      ipv6_address = ipv6_of q;
+      ipv4_address = address_of 4 p;
+      ipv6_address = address_of 16 q;
       choose_id = id;
     }
 
@@ -37,23 +39,23 @@ laid : (v4 v6 ch chid : Bool) (x id : ℕ) (p q : List ℕ) → x < 256 ^ 4 → 
 unfolding record_image record_at
 laid v4 v6 ch chid x id p q small =
     let flags = v4 ∷ v6 ∷ ch ∷ chid ∷ [] in
-    let given = (ipv4_of p).given ∷ (ipv6_of q).given ∷ [] in
+    let given = is_some (address_of 4 p) ∷ is_some (address_of 16 q) ∷ [] in
     record {
-      size_is = simp (length-append, length_little_endian_bytes_law, length4, length6) (omega arith);
+      size_is = simp (length-append, length_little_endian_bytes_law, length_address) (omega arith);
       found = λ m h.
           let (e₀, h₁) = byte h in
           let (e₁, h₂) = byte h₁ in
           let (e₂, h₃) = number32 x small h₂ in
           let (e₃, h₄) = byte h₃ in
-          let (e₄, h₅) = ipv4 p h₄ in
-          let (e₅, h₆) = ipv6 q (last h₅) in
+          let (e₄, h₅) = address 4 p (lit< tt) h₄ in
+          let (e₅, h₆) = address 16 q (lit< tt) (last h₅) in
           rw (e₀, e₁, flag_back flags 0, flag_back flags 1, flag_back flags 2, flag_back flags 3)
           (rw (flag_back given 0, flag_back given 1, e₂, e₃, e₄, e₅));
     }
 
 -- with CH there is no TEID and no address
 by_outcome : (s : List ℕ) → Bytes s → (o : Outcome) → Kept (found s o).«record»
-unfolding found refused chosen_record concrete_record ipv4_of ipv6_of
+unfolding found refused chosen_record concrete_record address_of
 by_outcome s b (accepts n) =
     let f = get_or s 0 0 in
     let c = laid (bit 0 f) (bit 1 f) (bit 2 f) (bit 3 f) in

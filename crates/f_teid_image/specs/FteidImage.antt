@@ -1,12 +1,12 @@
 -- The F-TEID in a record image: the head, then the fields, each at its place.
-use Rattle.std.specs.Prelude.{ℕ, ◌+◌, ◌%◌, Bool, List, [], ◌∷◌, ◌++◌, length, get_or}
+use Rattle.std.specs.Prelude.{ℕ, ◌+◌, ◌%◌, Bool, List, [], ◌∷◌, ◌++◌, length, get_or, is_some}
+use Rattle.answer.specs.declared.Read.{Read}
 use Rattle.answer.specs.declared.Written.{Written}
 use Rattle.answer.specs.Paper.{written}
-use Rattle.octets.specs.Octets.{bit, if_set, flag_byte, field, ipv4_of, ipv6_of, put}
+use Rattle.octets.specs.Octets.{bit, if_set, flag_byte, field, address_of, put}
 use Rattle.f_teid.specs.declared.Fteid.{Fteid}
-use Rattle.f_teid.specs.declared.FteidRead.{FteidRead}
 use Rattle.f_teid.specs.Fteid.{meaning, wire}
-use Rattle.image.specs.Image.{little_endian_bytes, number_at, bytes_or_zeros, head, head_size}
+use Rattle.image.specs.Image.{little_endian_bytes, number_at, address_bytes, head, head_size}
 
 -- flags, a byte: bit 0 V4, 1 V6, 2 CH, 3 CHID
 abbrev pub flags_at : ℕ
@@ -39,14 +39,14 @@ size = ipv6_at + 16
 unfoldable pub record_image : Fteid → List ℕ
 record_image r =
     flag_byte (r.v4 ∷ r.v6 ∷ r.ch ∷ r.chid ∷ [])
-    ∷ flag_byte (r.ipv4_address.given ∷ r.ipv6_address.given ∷ [])
+    ∷ flag_byte (is_some r.ipv4_address ∷ is_some r.ipv6_address ∷ [])
     ∷ (little_endian_bytes 8 r.teid.0
     ++ (r.choose_id
-    ∷ (bytes_or_zeros 4 r.ipv4_address.given r.ipv4_address.octets
-    ++ bytes_or_zeros 16 r.ipv6_address.given r.ipv6_address.octets)))
+    ∷ (address_bytes 4 r.ipv4_address
+    ++ address_bytes 16 r.ipv6_address)))
 
 -- the image of what a read answered
-abbrev pub image_of : FteidRead → List ℕ
+abbrev pub image_of : Read Fteid → List ℕ
 image_of r = head r.answer r.used ++ record_image r.«record»
 
 -- the record that stands in an image
@@ -60,8 +60,8 @@ record_at m =
       ch = flag 2;
       chid = flag 3;
       teid = record { 0 = number_at m teid_at % 4294967296 };
-      ipv4_address = ipv4_of (field m ipv4_at (if_set (given 0) 4));
-      ipv6_address = ipv6_of (field m ipv6_at (if_set (given 1) 16));
+      ipv4_address = address_of 4 (field m ipv4_at (if_set (given 0) 4));
+      ipv6_address = address_of 16 (field m ipv6_at (if_set (given 1) 16));
       choose_id = get_or m choose_id_at 0;
     }
 

@@ -5,14 +5,12 @@ ghost use Rattle.std.specs.Prelude.{◌≡◌, true, false, ◌≤◌, ◌<◌, 
 ghost use Rattle.answer.specs.declared.Answer.TheVariants.{Done};
 ghost use Rattle.answer.specs.Paper.{number_of};
 ghost use Rattle.octets.specs.Octets.{bit, put};
-ghost use Rattle.image.specs.Steps.{ZerosIfAbsent4, ZerosIfAbsent6};
 ghost use Rattle.image.specs.Image.{head, read_number, read_image, long_enough, write_number, write_output, write_report};
 ghost use Rattle.f_teid.specs.Fteid.{read};
 ghost use Rattle.f_teid_image.specs.FteidImage.{size, record_image, image_of, record_at, writes, stores};
 
 use answer::Answer;
 use f_teid::Fteid;
-use octets::{MaybeIpv4, MaybeIpv6};
 use types::Teid;
 
 // Where each field of an image stands, and how long an image is.
@@ -33,24 +31,17 @@ pub const SIZE: usize = IPV6 + 16;
 // Where the TEID of a payload without CH ends.
 const TEID_END: usize = Fteid::MIN_LEN + 4;
 
-// Puts the image of a read that is done, from the back to the front. The test tells the compiler what `requires` says, so that no
-// put tests the room again.
+// Puts the image of a read that is done, from the back to the front. The test tells the compiler that there is room, so that no put
+// tests it again.
 fn put_image(out: &mut [u8], used: usize, record: Fteid)
-    requires size_in_bounds { size ≤ length out.old }
-    requires zeros_if_absent4 { ZerosIfAbsent4 «record».ipv4_address }
-    requires zeros_if_absent6 { ZerosIfAbsent6 «record».ipv6_address }
     ensures { out.new ≡ put out.old 0 (head Done used ++ record_image «record») }
 {
     if out.len() < SIZE {
         return;
     }
-    let ipv4_address = record.ipv4_address;
-    let ipv6_address = record.ipv6_address;
-    let octets4 = ipv4_address.octets;
-    let octets6 = ipv6_address.octets;
     let given = octets::flag_byte(
-        ipv4_address.given,
-        ipv6_address.given,
+        record.ipv4_address.is_some(),
+        record.ipv6_address.is_some(),
         false,
         false,
         false,
@@ -68,8 +59,8 @@ fn put_image(out: &mut [u8], used: usize, record: Fteid)
         false,
         false,
     );
-    octets::put_bytes(out, IPV6, &octets6);
-    octets::put_bytes(out, IPV4, &octets4);
+    image::put_address(out, IPV6, record.ipv6_address);
+    image::put_address(out, IPV4, record.ipv4_address);
     octets::put_byte(out, CHOOSE_ID, record.choose_id);
     image::put_u64(out, TEID, record.teid.0 as u64);
     octets::put_byte(out, GIVEN, given);
@@ -82,10 +73,9 @@ fn put_image(out: &mut [u8], used: usize, record: Fteid)
 
 // Reads a payload with CH into an image, by whether CHID is set.
 fn read_chosen(payload: &[u8], image: &mut [u8], chid: bool) -> u64
-    requires size_in_bounds { size ≤ length image.old }
     requires payload_nonzero { 0 < length payload.now }
     requires payload_len_bound { length payload.now ≤ 65535 }
-    requires payload_value { bit 2 (get_or payload.now 0 0) ≡ true }
+    requires ch_set { bit 2 (get_or payload.now 0 0) ≡ true }
     requires chid_value { chid ≡ bit 3 (get_or payload.now 0 0) }
     ensures value { result ≡ number_of (read payload.now).answer }
     ensures image_after { image.new ≡ put image.old 0 (image_of (read payload.now)) }
@@ -99,16 +89,14 @@ fn read_chosen(payload: &[u8], image: &mut [u8], chid: bool) -> u64
     let v4 = octets::bit(flags, 0);
     let v6 = octets::bit(flags, 1);
     let choose_id = octets::number(&payload[1..end]) as u8;
-    let ipv4_address = MaybeIpv4::ABSENT;
-    let ipv6_address = MaybeIpv6::ABSENT;
     let record = Fteid {
         v4,
         v6,
         ch: true,
         chid,
         teid: Teid(0),
-        ipv4_address,
-        ipv6_address,
+        ipv4_address: None,
+        ipv6_address: None,
         choose_id,
     };
     put_image(image, end, record);
@@ -117,11 +105,10 @@ fn read_chosen(payload: &[u8], image: &mut [u8], chid: bool) -> u64
 
 // Reads a payload without CH and CHID that has its TEID into an image, by V4 and V6.
 fn read_concrete(payload: &[u8], image: &mut [u8], v4: bool, v6: bool) -> u64
-    requires size_in_bounds { size ≤ length image.old }
     requires in_bounds { 5 ≤ length payload.now }
     requires payload_len_bound { length payload.now ≤ 65535 }
-    requires payload_value { bit 2 (get_or payload.now 0 0) ≡ false }
-    requires payload_value_2 { bit 3 (get_or payload.now 0 0) ≡ false }
+    requires no_ch { bit 2 (get_or payload.now 0 0) ≡ false }
+    requires no_chid { bit 3 (get_or payload.now 0 0) ≡ false }
     requires v4_value { v4 ≡ bit 0 (get_or payload.now 0 0) }
     requires v6_value { v6 ≡ bit 1 (get_or payload.now 0 0) }
     ensures value { result ≡ number_of (read payload.now).answer }
@@ -137,8 +124,8 @@ fn read_concrete(payload: &[u8], image: &mut [u8], v4: bool, v6: bool) -> u64
         return image::put_short(image, SIZE, 2, end6, n);
     }
     let teid = octets::number(&payload[1..TEID_END]) as u32;
-    let ipv4_address = image::ipv4_at(payload, TEID_END, v4);
-    let ipv6_address = image::ipv6_at(payload, end4, v6);
+    let ipv4_address = image::address_at(payload, TEID_END, v4);
+    let ipv6_address = image::address_at(payload, end4, v6);
     let record = Fteid {
         v4,
         v6,
@@ -153,56 +140,6 @@ fn read_concrete(payload: &[u8], image: &mut [u8], v4: bool, v6: bool) -> u64
     0
 }
 
-// Reads a payload without CH and CHID into an image.
-fn read_addresses(payload: &[u8], image: &mut [u8]) -> u64
-    requires size_in_bounds { size ≤ length image.old }
-    requires payload_nonzero { 0 < length payload.now }
-    requires payload_len_bound { length payload.now ≤ 65535 }
-    requires payload_value { bit 2 (get_or payload.now 0 0) ≡ false }
-    requires payload_value_2 { bit 3 (get_or payload.now 0 0) ≡ false }
-    ensures value { result ≡ number_of (read payload.now).answer }
-    ensures image_after { image.new ≡ put image.old 0 (image_of (read payload.now)) }
-{
-    let n = payload.len();
-    if n < TEID_END {
-        return image::put_short(image, SIZE, 0, TEID_END, n);
-    }
-    let flags = payload[0];
-    let v6 = octets::bit(flags, 1);
-    if octets::bit(flags, 0) {
-        if v6 {
-            return read_concrete(payload, image, true, true);
-        }
-        return read_concrete(payload, image, true, false);
-    }
-    if v6 {
-        return read_concrete(payload, image, false, true);
-    }
-    read_concrete(payload, image, false, false)
-}
-
-// Reads a payload that has its flags into an image.
-fn read_flagged(payload: &[u8], image: &mut [u8]) -> u64
-    requires size_in_bounds { size ≤ length image.old }
-    requires payload_nonzero { 0 < length payload.now }
-    requires payload_len_bound { length payload.now ≤ 65535 }
-    ensures value { result ≡ number_of (read payload.now).answer }
-    ensures image_after { image.new ≡ put image.old 0 (image_of (read payload.now)) }
-{
-    let flags = payload[0];
-    let chid = octets::bit(flags, 3);
-    if octets::bit(flags, 2) {
-        if chid {
-            return read_chosen(payload, image, true);
-        }
-        return read_chosen(payload, image, false);
-    }
-    if chid {
-        return image::put_flags(image, SIZE, flags, 4);
-    }
-    read_addresses(payload, image)
-}
-
 // The record that stands in an image.
 fn record_at(image: &[u8]) -> Fteid
     ensures { result ≡ record_at image.now }
@@ -210,8 +147,8 @@ fn record_at(image: &[u8]) -> Fteid
     let flags = image::byte_at(image, FLAGS);
     let given = image::byte_at(image, GIVEN);
     let teid = image::u64_at(image, TEID);
-    let ipv4_address = image::ipv4_at(image, IPV4, octets::bit(given, 0));
-    let ipv6_address = image::ipv6_at(image, IPV6, octets::bit(given, 1));
+    let ipv4_address = image::address_at(image, IPV4, octets::bit(given, 0));
+    let ipv6_address = image::address_at(image, IPV6, octets::bit(given, 1));
     Fteid {
         v4: octets::bit(flags, 0),
         v6: octets::bit(flags, 1),
@@ -238,7 +175,31 @@ pub fn read(payload: &[u8], image: &mut [u8]) -> u64
     if n < Fteid::MIN_LEN {
         return image::put_short(image, SIZE, 0, Fteid::MIN_LEN, n);
     }
-    read_flagged(payload, image)
+    let flags = payload[0];
+    let chid = octets::bit(flags, 3);
+    if octets::bit(flags, 2) {
+        if chid {
+            return read_chosen(payload, image, true);
+        }
+        return read_chosen(payload, image, false);
+    }
+    if chid {
+        return image::put_flags(image, SIZE, flags, 4);
+    }
+    if n < TEID_END {
+        return image::put_short(image, SIZE, 0, TEID_END, n);
+    }
+    let v6 = octets::bit(flags, 1);
+    if octets::bit(flags, 0) {
+        if v6 {
+            return read_concrete(payload, image, true, true);
+        }
+        return read_concrete(payload, image, true, false);
+    }
+    if v6 {
+        return read_concrete(payload, image, false, true);
+    }
+    read_concrete(payload, image, false, false)
 }
 
 pub fn write(image: &[u8], out: &mut [u8], report: &mut [u8]) -> u64

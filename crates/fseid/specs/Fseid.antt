@@ -1,16 +1,13 @@
 -- F-SEID, as document 01 has it.
-use Rattle.std.specs.Prelude.{ℕ, ◌+◌, Bool, false, List, [], ◌∷◌, ◌++◌, get_or}
-use Rattle.std.specs.Prelude.{Option}
+use Rattle.std.specs.Prelude.{ℕ, ◌+◌, Bool, List, [], ◌∷◌, ◌++◌, get_or, Option, None, is_some}
 use Rattle.answer.specs.declared.Answer.{Answer}
 use Rattle.answer.specs.declared.Answer.TheVariants.{Done}
+use Rattle.answer.specs.declared.Read.{Read}
 use Rattle.types.specs.declared.Seid.{Seid}
-use Rattle.octets.specs.declared.MaybeIpv4.{MaybeIpv4}
-use Rattle.octets.specs.declared.MaybeIpv6.{MaybeIpv6}
-use Rattle.octets.specs.Octets.{bit, if_set, flag_byte, field, big_endian, big_endian_bytes, bytes_if, ipv4_of, ipv6_of, ipv4_meaning, ipv6_meaning}
+use Rattle.octets.specs.Octets.{bit, if_set, flag_byte, field, big_endian, big_endian_bytes, bytes_if, address_of}
 use Rattle.kind.specs.Layout.{wanted, Layout, Outcome, accepts, refuses, outcome}
 use Rattle.kind.specs.Kind.{Reader}
 use Rattle.fseid.specs.declared.Fseid.{Fseid}
-use Rattle.fseid.specs.declared.FseidRead.{FseidRead}
 
 -- what a record means
 pub record Value : Type 0 where
@@ -21,7 +18,7 @@ pub record Value : Type 0 where
   pub ipv6 : Option (List ℕ)
 
 unfoldable pub meaning : Fseid → Value
-meaning r = record { v4 = r.v4; v6 = r.v6; seid = r.seid.0; ipv4 = ipv4_meaning r.ipv4_address; ipv6 = ipv6_meaning r.ipv6_address }
+meaning r = record { v4 = r.v4; v6 = r.v6; seid = r.seid.0; ipv4 = r.ipv4_address; ipv6 = r.ipv6_address }
 
 -- the written form: flags (bit 0 V6, bit 1 V4), SEID, and the addresses that are given
 unfoldable pub wire : Value → List ℕ
@@ -48,30 +45,29 @@ record_of s =
       v4 = v4;
       v6 = v6;
       seid = record { 0 = big_endian (field s 1 8) };
-      ipv4_address = ipv4_of (field s 9 (if_set v4 4));
-      ipv6_address = ipv6_of (field s (9 + if_set v4 4) (if_set v6 16));
+      ipv4_address = address_of 4 (field s 9 (if_set v4 4));
+      ipv6_address = address_of 16 (field s (9 + if_set v4 4) (if_set v6 16));
     }
+
+-- a new record: V4 and V6 from the addresses given
+abbrev pub made : Seid → Option (List ℕ) → Option (List ℕ) → Fseid
+made seid a4 a6 = record { v4 = is_some a4; v6 = is_some a6; seid = seid; ipv4_address = a4; ipv6_address = a6 }
+
+-- flags false, the SEID 0, no addresses
+abbrev pub empty : Fseid
+empty = made (record { 0 = 0 }) None None
 
 -- a refused read: the empty record and used 0
-unfoldable pub refused : Answer → FseidRead
-refused a =
-    record {
-      answer = a;
-      used = 0;
-      «record» = record { v4 = false; v6 = false; seid = record { 0 = 0 }; ipv4_address = ipv4_of []; ipv6_address = ipv6_of [] };
-    }
+unfoldable pub refused : Answer → Read Fseid
+refused a = record { answer = a; used = 0; «record» = empty }
 
-unfoldable pub found : List ℕ → Outcome → FseidRead
+unfoldable pub found : List ℕ → Outcome → Read Fseid
 found s (accepts n) = record { answer = Done; used = n; «record» = record_of s }
 found s (refuses a) = refused a
 
 -- what reading a payload answers
-unfoldable pub read : List ℕ → FseidRead
+unfoldable pub read : List ℕ → Read Fseid
 read s = found s (outcome layout s)
 
 abbrev pub reader : Reader Value
 reader = record { answer = λ s. (read s).answer; used = λ s. (read s).used; value = λ s. meaning (read s).«record» }
-
--- a new record: V4 and V6 from the addresses given
-abbrev pub made : Seid → MaybeIpv4 → MaybeIpv6 → Fseid
-made seid a4 a6 = record { v4 = a4.given; v6 = a6.given; seid = seid; ipv4_address = a4; ipv6_address = a6 }

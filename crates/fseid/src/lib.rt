@@ -6,8 +6,7 @@ ghost use Rattle.octets.specs.Octets.{put};
 ghost use Rattle.answer.specs.Paper.{written};
 ghost use Rattle.fseid.specs.Fseid.{made, meaning, wire, max_len, read, refused};
 
-use answer::{Answer, Written};
-use octets::{MaybeIpv4, MaybeIpv6};
+use answer::{Answer, Read, Written};
 use types::Seid;
 
 #[derive(Clone, Copy)]
@@ -15,35 +14,16 @@ pub struct Fseid {
     pub v4: bool,
     pub v6: bool,
     pub seid: Seid,
-    pub ipv4_address: MaybeIpv4,
-    pub ipv6_address: MaybeIpv6,
-}
-
-// What reading a payload answers; the record is empty where it is refused.
-#[derive(Clone, Copy)]
-pub struct FseidRead {
-    pub answer: Answer,
-    pub used: usize,
-    pub record: Fseid,
+    pub ipv4_address: Option<[u8; 4]>,
+    pub ipv6_address: Option<[u8; 16]>,
 }
 
 // A refused read.
-fn refused(answer: Answer) -> FseidRead
+#[tactic(auto, unfolding(crate::specs::Fseid::refused))]
+fn refused(answer: Answer) -> Read<Fseid>
     ensures { result ≡ refused answer }
 {
-    let ipv4_address = MaybeIpv4::ABSENT;
-    let ipv6_address = MaybeIpv6::ABSENT;
-    FseidRead {
-        answer,
-        used: 0,
-        record: Fseid {
-            v4: false,
-            v6: false,
-            seid: Seid(0),
-            ipv4_address,
-            ipv6_address,
-        },
-    }
+    Read::refused(answer, Fseid::new(Seid(0), None, None))
 }
 
 impl Fseid {
@@ -60,19 +40,19 @@ impl Fseid {
     }
 
     // V4 and V6 from the addresses given.
-    pub fn new(seid: Seid, ipv4_address: MaybeIpv4, ipv6_address: MaybeIpv6) -> Fseid
+    pub fn new(seid: Seid, ipv4_address: Option<[u8; 4]>, ipv6_address: Option<[u8; 16]>) -> Fseid
         ensures { result ≡ made seid ipv4_address ipv6_address }
     {
         Fseid {
-            v4: ipv4_address.given,
-            v6: ipv6_address.given,
+            v4: ipv4_address.is_some(),
+            v6: ipv6_address.is_some(),
             seid,
             ipv4_address,
             ipv6_address,
         }
     }
 
-    pub fn unmarshal(payload: &[u8]) -> FseidRead
+    pub fn unmarshal(payload: &[u8]) -> Read<Fseid>
         ensures { result ≡ read payload.now }
     {
         let n = payload.len();
@@ -106,9 +86,9 @@ impl Fseid {
             });
         }
         let seid = octets::number(&payload[1..Fseid::MIN_LEN]);
-        let ipv4_address = MaybeIpv4::of(&payload[Fseid::MIN_LEN..end4]);
-        let ipv6_address = MaybeIpv6::of(&payload[end4..end6]);
-        FseidRead {
+        let ipv4_address = octets::address(&payload[Fseid::MIN_LEN..end4]);
+        let ipv6_address = octets::address(&payload[end4..end6]);
+        Read {
             answer: Answer::Done,
             used: end6,
             record: Fseid {
@@ -127,8 +107,8 @@ impl Fseid {
     {
         let ipv4_address = self.ipv4_address;
         let ipv6_address = self.ipv6_address;
-        let end4 = Fseid::MIN_LEN + octets::if_set(ipv4_address.given, 4);
-        let end6 = end4 + octets::if_set(ipv6_address.given, 16);
+        let end4 = Fseid::MIN_LEN + octets::if_set(ipv4_address.is_some(), 4);
+        let end6 = end4 + octets::if_set(ipv6_address.is_some(), 16);
         if out.len() < end6 {
             return Written {
                 answer: Answer::NoRoom { needed: end6 },
@@ -138,8 +118,8 @@ impl Fseid {
         let flags = octets::flag_byte(self.v6, self.v4, false, false, false, false, false, false);
         octets::put_byte(out, 0, flags);
         octets::put_number(out, 1, 8, self.seid.0);
-        octets::put_ipv4(out, Fseid::MIN_LEN, ipv4_address);
-        octets::put_ipv6(out, end4, ipv6_address);
+        octets::put_address(out, Fseid::MIN_LEN, ipv4_address);
+        octets::put_address(out, end4, ipv6_address);
         Written {
             answer: Answer::Done,
             len: end6,

@@ -4,21 +4,23 @@ use native.Mathlib.Omega.{arith}
 use mathlib.Core.Path.{◌≡◌, refl, ap, ◌∙◌}
 use mathlib.Core.Bool.{Bool, false}
 use mathlib.Core.List.{List, [], ◌∷◌}
+use Rattle.std.specs.Prelude.{is_some}
+use lib.Dec.{lit<}
 use lib.ListN.{length, get_or, length-append}
-use Rattle.octets.specs.Octets.{bit, if_set, Bytes, field, big_endian, ipv4_of, ipv6_of}
+use Rattle.octets.specs.Octets.{bit, if_set, Bytes, field, big_endian, address_of}
 use Rattle.kind.specs.Layout.{Outcome, accepts, refuses, outcome}
 use Rattle.fseid.specs.declared.Fseid.{Fseid}
 use Rattle.fseid.specs.Fseid.{meaning, wire, layout, record_of, refused, found, read}
 use Rattle.fseid.proofs.OfKind.{kind}
 use Rattle.image.specs.Image.{read_image}
 use Rattle.image.proofs.Laws.{length_little_endian_bytes_law}
-use Rattle.image.proofs.Back.{flag_back, field_below, last, byte, number, length4, length6, ipv4, ipv6, ImageOf, image_left, Again}
+use Rattle.image.proofs.Back.{flag_back, field_below, last, byte, number, length_address, address, ImageOf, image_left, Again}
 use Rattle.image.proofs.Back as image
 use Rattle.fseid_image.specs.FseidImage.{size, record_image, image_of, record_at, written_form, writes, stores}
 
 -- a record as a reader makes it
 abbrev its : (v4 v6 : Bool) (x : ℕ) (p q : List ℕ) → Fseid
-its v4 v6 x p q = record { v4 = v4; v6 = v6; seid = record { 0 = x }; ipv4_address = ipv4_of p; ipv6_address = ipv6_of q }
+its v4 v6 x p q = record { v4 = v4; v6 = v6; seid = record { 0 = x }; ipv4_address = address_of 4 p; ipv6_address = address_of 16 q }
 
 abbrev Kept : Fseid → Type 0
 Kept r = ImageOf 30 record_at (record_image r) r
@@ -27,20 +29,20 @@ laid : (v4 v6 : Bool) (x : ℕ) (p q : List ℕ) → x < 256 ^ 8 → Kept (its v
 unfolding record_image record_at
 laid v4 v6 x p q small =
     let flags = v6 ∷ v4 ∷ [] in
-    let given = (ipv4_of p).given ∷ (ipv6_of q).given ∷ [] in
+    let given = is_some (address_of 4 p) ∷ is_some (address_of 16 q) ∷ [] in
     record {
-      size_is = simp (length-append, length_little_endian_bytes_law, length4, length6) (omega arith);
+      size_is = simp (length-append, length_little_endian_bytes_law, length_address) (omega arith);
       found = λ m h.
           let (e₀, h₁) = byte h in
           let (e₁, h₂) = byte h₁ in
           let (e₂, h₃) = number x small h₂ in
-          let (e₃, h₄) = ipv4 p h₃ in
-          let (e₄, h₅) = ipv6 q (last h₄) in
+          let (e₃, h₄) = address 4 p (lit< tt) h₃ in
+          let (e₄, h₅) = address 16 q (lit< tt) (last h₄) in
           rw (e₀, e₁, flag_back flags 0, flag_back flags 1, flag_back given 0, flag_back given 1, e₂, e₃, e₄);
     }
 
 by_outcome : (s : List ℕ) → Bytes s → (o : Outcome) → Kept (found s o).«record»
-unfolding found refused record_of
+unfolding found refused record_of address_of
 by_outcome s b (accepts n) =
     let v4 = bit 1 (get_or s 0 0) in
     let v6 = bit 0 (get_or s 0 0) in

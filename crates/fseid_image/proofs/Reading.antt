@@ -3,20 +3,20 @@ use Prim.Native.Nat.{ℕ}
 use mathlib.Core.Path.{◌≡◌, refl}
 use mathlib.Core.List.{List, ◌++◌}
 use Rattle.answer.specs.declared.Answer.{Answer}
+use Rattle.answer.specs.declared.Read.{Read}
 use Rattle.answer.specs.declared.Answer.TheVariants.{Done}
 use Rattle.answer.specs.Paper.{number_of}
-use Rattle.octets.specs.Octets.{if_set, flag_byte, ipv4_of, ipv6_of, put}
+use Rattle.octets.specs.Octets.{if_set, flag_byte, put}
 use Rattle.fseid.specs.declared.Fseid.{Fseid}
-use Rattle.fseid.specs.declared.FseidRead.{FseidRead}
 use Rattle.fseid.specs.Fseid.{read, refused}
-use Rattle.image.specs.Image.{little_endian_bytes, bytes_or_zeros, head, refusal_image}
+use Rattle.image.specs.Image.{little_endian_bytes, address_bytes, head, refusal_image}
 use Rattle.image.proofs.Laws.{answers}
 use Rattle.fseid_image.specs.FseidImage.{size, record_image, image_of}
 
 module _ (s o : List ℕ) {o' : List ℕ} where
   pub refusal : {k : ℕ} (a : Answer) → (k ≡ number_of a) × (o' ≡ put o 0 (refusal_image size a)) → refused a ≡ read s → (k ≡ number_of (read s).answer) × (o' ≡ put o 0 (image_of (read s)))
-  unfolding refusal_image refused record_image little_endian_bytes flag_byte if_set bytes_or_zeros ipv4_of ipv6_of
-  refusal a p e = answers (λ (r : FseidRead). r.answer) image_of o e p
+  unfolding refusal_image refused record_image little_endian_bytes flag_byte if_set address_bytes
+  refusal a p e = answers (λ (r : Read Fseid). r.answer) image_of o e p
 
   pub accepted : {n : ℕ} {r : Fseid} → o' ≡ put o 0 (head Done n ++ record_image r) → record { answer = Done; used = n; «record» = r } ≡ read s → (0 ≡ number_of (read s).answer) × (o' ≡ put o 0 (image_of (read s)))
-  accepted q e = answers (λ (r : FseidRead). r.answer) image_of o e (refl, q)
+  accepted q e = answers (λ (r : Read Fseid). r.answer) image_of o e (refl, q)

@@ -1,12 +1,12 @@
 -- The F-SEID in a record image: the head, then the fields, each at its place.
-use Rattle.std.specs.Prelude.{ℕ, ◌+◌, Bool, List, [], ◌∷◌, ◌++◌, length, get_or}
+use Rattle.std.specs.Prelude.{ℕ, ◌+◌, Bool, List, [], ◌∷◌, ◌++◌, length, get_or, is_some}
+use Rattle.answer.specs.declared.Read.{Read}
 use Rattle.answer.specs.declared.Written.{Written}
 use Rattle.answer.specs.Paper.{written}
-use Rattle.octets.specs.Octets.{bit, if_set, flag_byte, field, ipv4_of, ipv6_of, put}
+use Rattle.octets.specs.Octets.{bit, if_set, flag_byte, field, address_of, put}
 use Rattle.fseid.specs.declared.Fseid.{Fseid}
-use Rattle.fseid.specs.declared.FseidRead.{FseidRead}
 use Rattle.fseid.specs.Fseid.{meaning, wire}
-use Rattle.image.specs.Image.{little_endian_bytes, number_at, bytes_or_zeros, head, head_size}
+use Rattle.image.specs.Image.{little_endian_bytes, number_at, address_bytes, head, head_size}
 
 -- flags, a byte: bit 0 V6, bit 1 V4
 abbrev pub flags_at : ℕ
@@ -35,13 +35,13 @@ size = ipv6_at + 16
 unfoldable pub record_image : Fseid → List ℕ
 record_image r =
     flag_byte (r.v6 ∷ r.v4 ∷ [])
-    ∷ flag_byte (r.ipv4_address.given ∷ r.ipv6_address.given ∷ [])
+    ∷ flag_byte (is_some r.ipv4_address ∷ is_some r.ipv6_address ∷ [])
     ∷ (little_endian_bytes 8 r.seid.0
-    ++ (bytes_or_zeros 4 r.ipv4_address.given r.ipv4_address.octets
-    ++ bytes_or_zeros 16 r.ipv6_address.given r.ipv6_address.octets))
+    ++ (address_bytes 4 r.ipv4_address
+    ++ address_bytes 16 r.ipv6_address))
 
 -- the image of what a read answered
-abbrev pub image_of : FseidRead → List ℕ
+abbrev pub image_of : Read Fseid → List ℕ
 image_of r = head r.answer r.used ++ record_image r.«record»
 
 -- the record that stands in an image
@@ -53,8 +53,8 @@ record_at m =
       v4 = flag 1;
       v6 = flag 0;
       seid = record { 0 = number_at m seid_at };
-      ipv4_address = ipv4_of (field m ipv4_at (if_set (given 0) 4));
-      ipv6_address = ipv6_of (field m ipv6_at (if_set (given 1) 16));
+      ipv4_address = address_of 4 (field m ipv4_at (if_set (given 0) 4));
+      ipv6_address = address_of 16 (field m ipv6_at (if_set (given 1) 16));
     }
 
 -- what writing that record answers, and the output that it leaves

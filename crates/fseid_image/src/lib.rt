@@ -5,7 +5,6 @@ ghost use Rattle.std.specs.Prelude.{◌≡◌, ◌≤◌, length, get_or, ◌++�
 ghost use Rattle.answer.specs.declared.Answer.TheVariants.{Done};
 ghost use Rattle.answer.specs.Paper.{number_of};
 ghost use Rattle.octets.specs.Octets.{bit, put};
-ghost use Rattle.image.specs.Steps.{ZerosIfAbsent4, ZerosIfAbsent6};
 ghost use Rattle.image.specs.Image.{head, read_number, read_image, long_enough, write_number, write_output, write_report};
 ghost use Rattle.fseid.specs.Fseid.{read};
 ghost use Rattle.fseid_image.specs.FseidImage.{size, record_image, image_of, record_at, writes, stores};
@@ -27,24 +26,17 @@ const IPV6: usize = IPV4 + 4;
 
 pub const SIZE: usize = IPV6 + 16;
 
-// Puts the image of a read that is done, from the back to the front. The test tells the compiler what `requires` says, so that no
-// put tests the room again.
+// Puts the image of a read that is done, from the back to the front. The test tells the compiler that there is room, so that no put
+// tests it again.
 fn put_image(out: &mut [u8], used: usize, record: Fseid)
-    requires size_in_bounds { size ≤ length out.old }
-    requires zeros_if_absent4 { ZerosIfAbsent4 «record».ipv4_address }
-    requires zeros_if_absent6 { ZerosIfAbsent6 «record».ipv6_address }
     ensures { out.new ≡ put out.old 0 (head Done used ++ record_image «record») }
 {
     if out.len() < SIZE {
         return;
     }
-    let ipv4_address = record.ipv4_address;
-    let ipv6_address = record.ipv6_address;
-    let octets4 = ipv4_address.octets;
-    let octets6 = ipv6_address.octets;
     let given = octets::flag_byte(
-        ipv4_address.given,
-        ipv6_address.given,
+        record.ipv4_address.is_some(),
+        record.ipv6_address.is_some(),
         false,
         false,
         false,
@@ -55,8 +47,8 @@ fn put_image(out: &mut [u8], used: usize, record: Fseid)
     let flags = octets::flag_byte(
         record.v6, record.v4, false, false, false, false, false, false,
     );
-    octets::put_bytes(out, IPV6, &octets6);
-    octets::put_bytes(out, IPV4, &octets4);
+    image::put_address(out, IPV6, record.ipv6_address);
+    image::put_address(out, IPV4, record.ipv4_address);
     image::put_u64(out, SEID, record.seid.0);
     octets::put_byte(out, GIVEN, given);
     octets::put_byte(out, FLAGS, flags);
@@ -68,7 +60,6 @@ fn put_image(out: &mut [u8], used: usize, record: Fseid)
 
 // Reads a payload that has its flags and its SEID into an image, by V4 and V6.
 fn read_concrete(payload: &[u8], image: &mut [u8], v4: bool, v6: bool) -> u64
-    requires size_in_bounds { size ≤ length image.old }
     requires in_bounds { 9 ≤ length payload.now }
     requires payload_len_bound { length payload.now ≤ 65535 }
     requires v4_value { v4 ≡ bit 1 (get_or payload.now 0 0) }
@@ -86,8 +77,8 @@ fn read_concrete(payload: &[u8], image: &mut [u8], v4: bool, v6: bool) -> u64
         return image::put_short(image, SIZE, 2, end6, n);
     }
     let seid = octets::number(&payload[1..Fseid::MIN_LEN]);
-    let ipv4_address = image::ipv4_at(payload, Fseid::MIN_LEN, v4);
-    let ipv6_address = image::ipv6_at(payload, end4, v6);
+    let ipv4_address = image::address_at(payload, Fseid::MIN_LEN, v4);
+    let ipv6_address = image::address_at(payload, end4, v6);
     let record = Fseid {
         v4,
         v6,
@@ -99,28 +90,6 @@ fn read_concrete(payload: &[u8], image: &mut [u8], v4: bool, v6: bool) -> u64
     0
 }
 
-// Reads a payload that has its flags and its SEID into an image.
-fn read_addresses(payload: &[u8], image: &mut [u8]) -> u64
-    requires size_in_bounds { size ≤ length image.old }
-    requires in_bounds { 9 ≤ length payload.now }
-    requires payload_len_bound { length payload.now ≤ 65535 }
-    ensures value { result ≡ number_of (read payload.now).answer }
-    ensures image_after { image.new ≡ put image.old 0 (image_of (read payload.now)) }
-{
-    let flags = payload[0];
-    let v6 = octets::bit(flags, 0);
-    if octets::bit(flags, 1) {
-        if v6 {
-            return read_concrete(payload, image, true, true);
-        }
-        return read_concrete(payload, image, true, false);
-    }
-    if v6 {
-        return read_concrete(payload, image, false, true);
-    }
-    read_concrete(payload, image, false, false)
-}
-
 // The record that stands in an image.
 fn record_at(image: &[u8]) -> Fseid
     ensures { result ≡ record_at image.now }
@@ -128,8 +97,8 @@ fn record_at(image: &[u8]) -> Fseid
     let flags = image::byte_at(image, FLAGS);
     let given = image::byte_at(image, GIVEN);
     let seid = image::u64_at(image, SEID);
-    let ipv4_address = image::ipv4_at(image, IPV4, octets::bit(given, 0));
-    let ipv6_address = image::ipv6_at(image, IPV6, octets::bit(given, 1));
+    let ipv4_address = image::address_at(image, IPV4, octets::bit(given, 0));
+    let ipv6_address = image::address_at(image, IPV6, octets::bit(given, 1));
     Fseid {
         v4: octets::bit(flags, 1),
         v6: octets::bit(flags, 0),
@@ -153,7 +122,18 @@ pub fn read(payload: &[u8], image: &mut [u8]) -> u64
     if n < Fseid::MIN_LEN {
         return image::put_short(image, SIZE, 0, Fseid::MIN_LEN, n);
     }
-    read_addresses(payload, image)
+    let flags = payload[0];
+    let v6 = octets::bit(flags, 0);
+    if octets::bit(flags, 1) {
+        if v6 {
+            return read_concrete(payload, image, true, true);
+        }
+        return read_concrete(payload, image, true, false);
+    }
+    if v6 {
+        return read_concrete(payload, image, false, true);
+    }
+    read_concrete(payload, image, false, false)
 }
 
 pub fn write(image: &[u8], out: &mut [u8], report: &mut [u8]) -> u64

@@ -2,8 +2,9 @@
 use Prim.Native.Nat.{ℕ, ◌+◌}
 use native.Mathlib.Omega.{arith}
 use mathlib.Core.Path.{◌≡◌, refl, ap, ◌∙◌}
-use mathlib.Core.Bool.{true, false}
+use mathlib.Core.Bool.{Bool, true, false}
 use mathlib.Core.List.{List, [], ◌∷◌}
+use Rattle.std.specs.Bool.{then_some}
 use lib.ListN.{length}
 use Rattle.octets.specs.Octets.{if_set, flag_byte, number_if, presence, put}
 use Rattle.octets.proofs.Laws.{flags_padded, number_length, Puts, ends, then}
@@ -27,12 +28,22 @@ module _ (r : Fteid) (u : ℕ) (ch : r.ch ≡ true) (e : u ≡ if_set r.chid 1) 
       → Puts d 0 (wire (meaning r)) d2
   row f d d1 d2 g q1 q2 = rw (formed, ← flags_padded (r.v4 ∷ r.v6 ∷ true ∷ r.chid ∷ []) 4, ← g) (then (f ∷ []) 1 q1 refl (ends q2))
 
+-- the choose ID as it is handed to the put
+handed : (g : Bool) (x : ℕ) → then_some g x ≡ presence g x
+unfolding presence
+handed true x = refl
+handed false x = refl
+
 pub returns-then-out-end : goal.returns-then-out-end
-returns-then-out-end c = let all_of_it = no_room _ _ _ (long _ _ c.requires c.if_set-end.ensures.value) c.if-out-end.true in record { value = all_of_it.0; out_after = all_of_it.1 }
+returns-then-out-end c =
+    let all_of_it = no_room _ _ _ (long _ _ c.requires c.if_set-end.ensures.value) c.if-out-end.true in
+    record { value = all_of_it.0; out_after = all_of_it.1 }
 
 pub returns : goal.returns
 returns c =
     let r = c.args.r in
     let ch = c.requires in
-    let e = c.if_set-end.ensures.value in let all_of_it = all_put _ _ _ (long r _ ch e) _ c.if-out-end.false
-    (row r _ ch e _ _ _ _ c.flag_byte-choose_flags.ensures c.put_byte.ensures c.put_number_given.ensures) in record { value = all_of_it.0; out_after = all_of_it.1 }
+    let e = c.if_set-end.ensures.value in
+    let id = rw (c.then_some.ensures, handed r.chid r.choose_id) at c.put_number_if.ensures in
+    let all_of_it = all_put _ _ _ (long r _ ch e) _ c.if-out-end.false (row r _ ch e _ _ _ _ c.flag_byte-choose_flags.ensures c.put_byte.ensures id) in
+    record { value = all_of_it.0; out_after = all_of_it.1 }

@@ -1,10 +1,5 @@
 -- `f_teid_image::read_chosen` meets its contract: at each return, the tests that led there and what the calls handed over.
-use borrow.Author.Rules.{rules}
-use mathlib.Core.Path.{refl}
-use mathlib.Core.List.{[]}
-use Rattle.octets.specs.Octets.{ipv4_of, ipv6_of}
 use Rattle.f_teid.proofs.Returns.{choose_id_fits, no_choose_id, chosen}
-use Rattle.image.proofs.Laws.{zeros4, zeros6}
 use Rattle.f_teid_image.proofs.Reading.{refusal, accepted}
 use Rattle.f_teid_image.proofs.read_chosen.Goals as goal
 
@@ -13,10 +8,6 @@ returns-then-n-end c = let all = refusal _ _ _ (c.put_short.ensures.value, c.put
 
 pub overflow_cast-choose_id : goal.overflow_cast-choose_id
 overflow_cast-choose_id c = record { fits = search choose_id_fits }
-
-pub put_image-requires : goal.put_image-requires
-unfolding ipv4_of ipv6_of
-put_image-requires c = record { size_in_bounds = search rules; zeros_if_absent4 = zeros4 _ [] refl; zeros_if_absent6 = zeros6 _ [] refl }
 
 pub returns : goal.returns
 returns c = let all = accepted _ _ c.put_image.ensures (search chosen) in record { value = all.0; image_after = all.1 }

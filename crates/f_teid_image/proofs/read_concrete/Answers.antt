@@ -1,7 +1,5 @@
 -- `f_teid_image::read_concrete` meets its contract: at each return, the tests that led there and what the calls handed over.
-use borrow.Author.Rules.{rules}
 use Rattle.f_teid.proofs.Returns.{teid_fits, no_ipv4_law, no_ipv6_law, whole}
-use Rattle.image.proofs.Laws.{zeros4, zeros6}
 use Rattle.f_teid_image.proofs.Reading.{refusal, accepted}
 use Rattle.f_teid_image.proofs.read_concrete.Goals as goal
 
@@ -13,9 +11,6 @@ returns-then-n-end6 c = let all = refusal _ _ _ (c.put_short-then-n-end6.ensures
 
 pub overflow_cast-teid : goal.overflow_cast-teid
 overflow_cast-teid c = record { fits = search teid_fits }
-
-pub put_image-requires : goal.put_image-requires
-put_image-requires c = search (rules, zeros4, zeros6)
 
 pub returns : goal.returns
 returns c = let all = accepted _ _ c.put_image.ensures (search whole) in record { value = all.0; image_after = all.1 }

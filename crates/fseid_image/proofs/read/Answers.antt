@@ -14,5 +14,14 @@ returns-then-n-gt65535 c = let all = read_long _ _ _ (search rules) (refusal _ _
 pub returns-then-n-lt-MIN_LEN : goal.returns-then-n-lt-MIN_LEN
 returns-then-n-lt-MIN_LEN c = let all = read_long _ _ _ (search rules) (refusal _ _ _ (c.put_short.ensures.value, c.put_short.ensures.out_after) (search no_head)) in record { value = all.0; image_after = all.1 }
 
+pub returns-then-v6 : goal.returns-then-v6
+returns-then-v6 c = let all = read_long _ _ _ (search rules) (c.read_concrete.ensures.value, c.read_concrete.ensures.image_after) in record { value = all.0; image_after = all.1 }
+
+pub returns-then-bit : goal.returns-then-bit
+returns-then-bit c = let all = read_long _ _ _ (search rules) (c.read_concrete-then-bit.ensures.value, c.read_concrete-then-bit.ensures.image_after) in record { value = all.0; image_after = all.1 }
+
+pub returns-then-v6-2 : goal.returns-then-v6-2
+returns-then-v6-2 c = let all = read_long _ _ _ (search rules) (c.read_concrete-then-v6-2.ensures.value, c.read_concrete-then-v6-2.ensures.image_after) in record { value = all.0; image_after = all.1 }
+
 pub returns : goal.returns
-returns c = let all = read_long _ _ _ (search rules) (c.read_addresses.ensures.value, c.read_addresses.ensures.image_after) in record { value = all.0; image_after = all.1 }
+returns c = let all = read_long _ _ _ (search rules) (c.read_concrete-2.ensures.value, c.read_concrete-2.ensures.image_after) in record { value = all.0; image_after = all.1 }

@@ -4,21 +4,20 @@ use mathlib.Core.Path.{◌≡◌}
 use mathlib.Core.Bool.{Bool}
 use mathlib.Core.List.{List}
 use lib.ListN.{get_or}
-use Rattle.octets.specs.declared.MaybeIpv4.{MaybeIpv4}
-use Rattle.octets.specs.declared.MaybeIpv6.{MaybeIpv6}
-use Rattle.octets.specs.Octets.{bit, if_set, field, ipv4_of, ipv6_of}
+use Rattle.std.specs.Prelude.{Option}
+use Rattle.octets.specs.Octets.{bit, if_set, field, address_of}
 use Rattle.image.specs.Image.{number_at}
 use Rattle.fseid_image.specs.FseidImage.{flags_at, given_at, seid_at, ipv4_at, ipv6_at, record_at}
 use Rattle.fseid_image.proofs.record_at.Goals as goal
 
-found : (m : List ℕ) (f : ℕ) (g : ℕ) (x : ℕ) (b0 : Bool) (a4 : MaybeIpv4) (b1 : Bool) (a6 : MaybeIpv6) (b2 : Bool) (b3 : Bool)
+found : (m : List ℕ) (f : ℕ) (g : ℕ) (x : ℕ) (b0 : Bool) (a4 : Option (List ℕ)) (b1 : Bool) (a6 : Option (List ℕ)) (b2 : Bool) (b3 : Bool)
     → f ≡ get_or m flags_at 0
     → g ≡ get_or m given_at 0
     → x ≡ number_at m seid_at
     → b0 ≡ bit 0 g
-    → a4 ≡ ipv4_of (field m ipv4_at (if_set b0 4))
+    → a4 ≡ address_of 4 (field m ipv4_at (if_set b0 4))
     → b1 ≡ bit 1 g
-    → a6 ≡ ipv6_of (field m ipv6_at (if_set b1 16))
+    → a6 ≡ address_of 16 (field m ipv6_at (if_set b1 16))
     → b2 ≡ bit 1 f
     → b3 ≡ bit 0 f
     → record { v4 = b2; v6 = b3; seid = record { 0 = x }; ipv4_address = a4; ipv6_address = a6 } ≡ record_at m
