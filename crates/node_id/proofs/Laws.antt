@@ -12,10 +12,9 @@ use Rattle.answer.specs.declared.Answer.{Answer}
 use Rattle.answer.specs.declared.Answer.TheVariants.{Done, Short, NotUtf8, InputTooLong}
 use Rattle.octets.specs.Octets.{pick, field}
 use Rattle.text.specs.Utf8.{good_len, checked}
-use Rattle.texts.specs.Texts.{is_text}
 use Rattle.node_id.specs.declared.NodeId.{NodeId}
-use Rattle.node_id.specs.declared.NodeIdRead.{NodeIdRead}
-use Rattle.node_id.specs.NodeId.{Value, ipv4, ipv6, meant, meaning, wire, textual, of_ipv4, of_ipv6, named, refused, accepted, read_address, read_fqdn, by_type, read}
+use Rattle.answer.specs.declared.Read.{Read}
+use Rattle.node_id.specs.NodeId.{Value, ipv4, ipv6, meaning, wire, textual, of_ipv4, of_ipv6, named, refused, accepted, read_address, read_fqdn, by_type, read}
 use Rattle.node_id.proofs.Returns.{whole_address, typed}
 
 -- a type that is an address: its byte, the address's width and its record
@@ -25,14 +24,14 @@ pub record Address (k width : ℕ) (make : List ℕ → NodeId) : Type 0 where
   pub reads : (s : List ℕ) → by_type k s ≡ read_address number width make s
   pub means : (texts a : List ℕ) → meaning texts (make a) ≡ value a
   pub writes : (a : List ℕ) → wire (value a) ≡ k ∷ a
-  pub able : (texts a : List ℕ) → textual (make a).kind (is_text texts (make a).name) ≡ None
+  pub able : (texts a : List ℕ) → textual texts (make a) ≡ None
 
 ipv4_type : Address 0 4 of_ipv4
-unfolding by_type meaning meant wire textual
+unfolding by_type meaning wire textual
 ipv4_type = record { number = 1; value = ipv4; reads = λ s. refl; means = λ t a. refl; writes = λ a. refl; able = λ t a. refl }
 
 ipv6_type : Address 1 16 of_ipv6
-unfolding by_type meaning meant wire textual
+unfolding by_type meaning wire textual
 ipv6_type = record { number = 2; value = ipv6; reads = λ s. refl; means = λ t a. refl; writes = λ a. refl; able = λ t a. refl }
 
 module _ (s : List ℕ) (fits : length s ≤ 65535) where
@@ -50,7 +49,7 @@ pub data Form (s : List ℕ) : Type 0 where
   name : 1 + good_len (drop 1 s) ≡ length s → get_or s 0 0 ≡ 2 → Form s
 
 -- what a test leaves that doesn't refuse
-tested : (t : Bool) (r : NodeIdRead) (a : Answer) → (a ≡ Done → ⊥) → (pick t r (refused a)).answer ≡ Done → (t ≡ true) × (r.answer ≡ Done)
+tested : (t : Bool) (r : Read NodeId) (a : Answer) → (a ≡ Done → ⊥) → (pick t r (refused a)).answer ≡ Done → (t ≡ true) × (r.answer ≡ Done)
 unfolding refused
 tested true r a n q = (refl, q)
 tested false r a n q = absurd (n q)

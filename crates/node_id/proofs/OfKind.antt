@@ -16,7 +16,7 @@ use Rattle.kind.specs.Write.{◌then◌}
 use Rattle.kind.specs.Demand3.{Demand3}
 use Rattle.kind.proofs.Demand3.{demand3}
 use Rattle.node_id.specs.declared.NodeId.{NodeId}
-use Rattle.node_id.specs.NodeId.{Value, meant, meaning, wire, read, reader, textual, write_refusal}
+use Rattle.node_id.specs.NodeId.{Value, meaning, wire, read, reader, textual, write_refusal}
 use Rattle.node_id.proofs.Laws.{Address, whole, whole_name, Form, address, name, formed}
 
 first_take : (n : ℕ) (s : List ℕ) → get_or (take (suc n) s) 0 0 ≡ get_or s 0 0
@@ -29,7 +29,7 @@ pub record Cut (s : List ℕ) : Type 0 where
   pub within : used ≤ length s
   pub is_used : (read s).used ≡ used
   pub rewritten : wire (meaning s (read s).«record») ≡ take used s
-  pub able : textual (read s).«record».kind (is_text s (read s).«record».name) ≡ None
+  pub able : textual s (read s).«record» ≡ None
   pub again : Bytes s → Reads reader (take used s) (meaning s (read s).«record») used
 
 cut_address : {k w : ℕ} {make : List ℕ → NodeId} (s : List ℕ) → length s ≤ 65535 → Address k w make → suc w ≤ length s → get_or s 0 0 ≡ k → Cut s
@@ -48,7 +48,7 @@ cut_address {w = w} s f a h e =
     }
 
 cut_of : (s : List ℕ) → length s ≤ 65535 → Form s → Cut s
-unfolding meaning meant wire textual is_text
+unfolding meaning wire textual is_text
 cut_of s f (address a h e) = cut_address s f a h e
 cut_of s f (name h e) =
     let q = whole_name s f h e in

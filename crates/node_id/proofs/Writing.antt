@@ -1,14 +1,13 @@
--- A type and what follows it, written: what the promises of the three writers say at each return. No contract cites this file.
+-- A type and what follows it, written: what the promises of the two writers say at each return. No contract cites this file.
 use Prim.Native.Nat.{ℕ, ◌+◌, ◌≤◌, ◌<◌}
 use native.Mathlib.Omega.{arith}
 use mathlib.Core.Path.{◌≡◌, refl}
-use mathlib.Core.Bool.{Bool, true}
 use mathlib.Core.List.{List, [], ◌∷◌}
 use lib.ListN.{length}
 use borrow.Author.Tests.{le-leb, lt-leb}
 use Rattle.answer.specs.declared.Answer.TheVariants.{Done, OutputTooLong, NoRoom}
 use Rattle.answer.specs.declared.Written.{Written}
-use Rattle.octets.specs.Octets.{presence, bytes_if, put}
+use Rattle.octets.specs.Octets.{put}
 use Rattle.octets.proofs.Laws.{ends, then}
 use Rattle.kind.specs.Write.{too_long_output, answered, stored}
 use Rattle.kind.proofs.Cases.{no_room, all_put}
@@ -41,8 +40,3 @@ module _ (k n : ℕ) (bs d : List ℕ) (l : length bs ≡ n) (h : n ≤ 65534) w
 
   pub done_address : (d1 d2 : List ℕ) → 1 + n ≤ length d → d1 ≡ put d 0 (k ∷ []) → d2 ≡ put d1 1 bs → Ends k bs d (record { answer = Done; len = 1 + n }) d2
   done_address d1 d2 g p q = rw (← l) (done k bs d (rw l h) d1 d2 (rw l g) p q)
-
--- a new address, of either width, is put as it is
-pub put_new : {R : Type 0} (given : R → Bool) (octets : R → List ℕ) (x y : R) (d e : List ℕ) → x ≡ y → given y ≡ true → e ≡ put d 1 (bytes_if (presence (given x) (octets x))) → e ≡ put d 1 (octets y)
-unfolding presence bytes_if
-put_new given octets x y d e h t q = rw (h, t) at q

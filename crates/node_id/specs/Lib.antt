@@ -1,1 +1,2 @@
 pub mod NodeId
+pub mod Steps

@@ -7,64 +7,58 @@ use mathlib.Core.List.{List}
 use Rattle.std.specs.Prelude.{None}
 use lib.Dec.{leb, eqb}
 use lib.ListN.{length, drop, get_or, replicate, length-append, length-replicate}
-use borrow.Author.Tests.{leb-true, eqb-true}
+use borrow.Author.Tests.{leb-true, eqb-true, eq-eqb}
 use Rattle.answer.specs.declared.Answer.{Answer}
-use Rattle.octets.specs.Octets.{pick, field}
+use Rattle.octets.specs.Octets.{pick, field, address_of}
 use Rattle.octets.proofs.Laws.{length_field}
 use Rattle.text.specs.Utf8.{good_len}
 use Rattle.kind.specs.Write.{answered, stored}
-use Rattle.node_id.specs.declared.NodeIdType.{NodeIdType}
-use Rattle.node_id.specs.declared.NodeIdType.TheVariants.{Ipv4, Ipv6, Fqdn}
+use Rattle.answer.specs.declared.Read.{Read}
 use Rattle.node_id.specs.declared.NodeId.{NodeId}
-use Rattle.node_id.specs.declared.NodeIdRead.{NodeIdRead}
 use Rattle.node_id.specs.NodeId.{meaning, wire, of_ipv4, of_ipv6, named, refused, read_address, read_fqdn, by_type, read, write_refusal}
 use Rattle.node_id.proofs.OfKind.{kind, writable}
-use Rattle.image.specs.Image.{read_image}
+use Rattle.image.specs.Image.{address_bytes, read_image}
 use Rattle.image.proofs.Laws.{length_little_endian_bytes_law}
-use Rattle.image.proofs.Back.{last, byte, number, octets4, octets6, ImageOf, image_left, Again}
+use Rattle.image.proofs.Back.{last, byte, number, part, ImageOf, image_left, Again}
 use Rattle.image.proofs.Back as image
-use Rattle.node_id_image.specs.NodeIdImage.{size, type_byte, type_of, record_image, image_of, record_at, written_form, writes, stores}
+use Rattle.node_id_image.specs.NodeIdImage.{size, fields_of, record_of, record_image, image_of, record_at, written_form, writes, stores}
 
 abbrev Kept : NodeId → Type 0
 Kept r = ImageOf 37 record_at (record_image r) r
 
-type_back : (k : NodeIdType) → type_of (type_byte k) ≡ k
-type_back Ipv4 = refl
-type_back Ipv6 = refl
-type_back Fqdn = refl
-
--- a record whose addresses are whole
-laid : (r : NodeId) → length r.ipv4_address ≡ 4 → length r.ipv6_address ≡ 16 → r.name.place < 256 ^ 8 → r.name.len < 256 ^ 8 → Kept r
-unfolding record_image record_at
-laid r l4 l6 small₁ small₂ =
+-- a record whose fields are whole
+laid : (r : NodeId) → let f = fields_of r in length f.ipv4_address ≡ 4 → length f.ipv6_address ≡ 16 → f.name.place < 256 ^ 8 → f.name.len < 256 ^ 8 → record_of f ≡ r → Kept r
+unfolding record_image record_at address_bytes address_of
+laid r l4 l6 small₁ small₂ e =
+    let f = fields_of r in
     record {
       size_is = simp (length-append, length_little_endian_bytes_law, l4, l6) (omega arith);
       found = λ m h.
           let (e₀, h₁) = byte h in
-          let (e₁, h₂) = number r.name.place small₁ h₁ in
-          let (e₂, h₃) = number r.name.len small₂ h₂ in
-          let (e₃, h₄) = octets4 r.ipv4_address l4 h₃ in
-          let (e₄, h₅) = octets6 r.ipv6_address l6 (last h₄) in
-          rw (e₀, type_back r.kind, e₁, e₂, e₃, e₄);
+          let (e₁, h₂) = number f.name.place small₁ h₁ in
+          let (e₂, h₃) = number f.name.len small₂ h₂ in
+          let (e₃, h₄) = part f.ipv4_address 4 l4 h₃ in
+          let (e₄, h₅) = part f.ipv6_address 16 l6 (last h₄) in
+          rw (e₀, e₁, e₂, e₃, e₄, eq-eqb _ 4 l4, eq-eqb _ 16 l6) e;
     }
 
 zeros : (n : ℕ) → length {A = ℕ} (replicate n 0) ≡ n
 zeros n = length-replicate {A = ℕ} n 0
 
 of_name : (place len : ℕ) → place < 256 ^ 8 → len < 256 ^ 8 → Kept (named place len)
-of_name place len h k = laid (named place len) (zeros 4) (zeros 16) h k
+of_name place len h k = laid (named place len) (zeros 4) (zeros 16) h k refl
 
 of_ipv4_law : (a : List ℕ) → length a ≡ 4 → Kept (of_ipv4 a)
-of_ipv4_law a l = laid (of_ipv4 a) l (zeros 16) (omega arith) (omega arith)
+of_ipv4_law a l = laid (of_ipv4 a) l (zeros 16) (omega arith) (omega arith) refl
 
 of_ipv6_law : (a : List ℕ) → length a ≡ 16 → Kept (of_ipv6 a)
-of_ipv6_law a l = laid (of_ipv6 a) (zeros 4) l (omega arith) (omega arith)
+of_ipv6_law a l = laid (of_ipv6 a) (zeros 4) l (omega arith) (omega arith) refl
 
 -- the record of one of two readings
-abbrev Fine : NodeIdRead → Type 0
+abbrev Fine : Read NodeId → Type 0
 Fine x = Kept x.«record»
 
-fine_either : (t : Bool) (x y : NodeIdRead) → (t ≡ true → Fine x) → Fine y → Fine (pick t x y)
+fine_either : (t : Bool) (x y : Read NodeId) → (t ≡ true → Fine x) → Fine y → Fine (pick t x y)
 fine_either true x y f g = f refl
 fine_either false x y f g = g
 

@@ -13,7 +13,7 @@ pub returns-then-n-gt65535 : goal.returns-then-n-gt65535
 returns-then-n-gt65535 c = let all = read_long _ _ _ (search rules) (refusal read _ _ _ (c.put_refused.ensures.value, c.put_refused.ensures.out_after) (search too_long)) in record { value = all.0; image_after = all.1 }
 
 pub returns-then-n-lt1 : goal.returns-then-n-lt1
-returns-then-n-lt1 c = let all = read_long _ _ _ (search rules) (refusal read _ _ _ (c.put_refused-then-n-lt1.ensures.value, c.put_refused-then-n-lt1.ensures.out_after) (search empty)) in record { value = all.0; image_after = all.1 }
+returns-then-n-lt1 c = let all = read_long _ _ _ (search rules) (refusal read _ _ _ (c.put_short.ensures.value, c.put_short.ensures.out_after) (search empty)) in record { value = all.0; image_after = all.1 }
 
 pub returns : goal.returns
 returns c = let all = read_long _ _ _ (search rules) (c.read_typed.ensures.value, c.read_typed.ensures.image_after) in record { value = all.0; image_after = all.1 }

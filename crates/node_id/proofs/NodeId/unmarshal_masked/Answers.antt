@@ -1,12 +1,8 @@
--- `node_id::NodeId::unmarshal_masked` meets its contract: by the length, then by the type under the mask.
-use Rattle.node_id.proofs.Returns.{masked_too_long, masked_empty, masked_typed}
+-- `node_id::NodeId::unmarshal_masked` meets its contract: by what was read, or that it was refused.
+use mathlib.Core.Path.{◌∙◌}
+use Rattle.node_id.specs.NodeId.{refused}
 use Rattle.node_id.proofs.NodeId.unmarshal_masked.Goals as goal
 
-pub returns-then-n-gt65535 : goal.returns-then-n-gt65535
-returns-then-n-gt65535 c = search masked_too_long
-
-pub returns-then-n-lt1 : goal.returns-then-n-lt1
-returns-then-n-lt1 c = search masked_empty
-
-pub returns : goal.returns
-returns c = search masked_typed
+pub returns-in-Err : goal.returns-in-Err
+unfolding refused
+returns-in-Err c = c.refused.ensures ∙ rw c.new_fqdn.ensures (rw c.in-Err.is at c.read_masked.ensures)
