@@ -34,11 +34,11 @@ fn complete(record: PfdContents) -> bool
     ensures { (s : List ℕ) → result ≡ complete (meaning s «record») }
 {
     let flags = record.flags;
-    let flow = still_complete(true, flags, 0, record.flow_description.given);
-    let url = still_complete(flow, flags, 1, record.url.given);
-    let domain = still_complete(url, flags, 2, record.domain_name.given);
-    let custom = still_complete(domain, flags, 3, record.custom_pfd_content.given);
-    let protocol = still_complete(custom, flags, 4, record.domain_name_protocol.given);
+    let flow = still_complete(true, flags, 0, record.flow_description.is_some());
+    let url = still_complete(flow, flags, 1, record.url.is_some());
+    let domain = still_complete(url, flags, 2, record.domain_name.is_some());
+    let custom = still_complete(domain, flags, 3, record.custom_pfd_content.is_some());
+    let protocol = still_complete(custom, flags, 4, record.domain_name_protocol.is_some());
     let flows = still_complete(
         protocol,
         flags,

@@ -2,7 +2,8 @@
 use mathlib.Core.Path.{ap, ◌∙◌}
 use Rattle.octets.proofs.Laws.{bytes_each}
 use Rattle.kind.proofs.Laws.{length_clear}
-use Rattle.pfd_contents.specs.declared.read.PfdContentsRead.{PfdContentsRead}
+use Rattle.answer.specs.declared.Read.{Read}
+use Rattle.pfd_contents.specs.declared.PfdContents.{PfdContents}
 use Rattle.pfd_contents.specs.PfdContents.{meaning, write_refusal}
 use Rattle.pfd_contents.proofs.OfKind.{kind, writable}
 use Rattle.case_line.proofs.Laws.{redo}
@@ -14,10 +15,10 @@ returns c =
     let read = c.unmarshal-read.ensures in redo kind (length_clear _) _ _ _ _ _ _ _ _ _
     (bytes_each payload (λ i. (c.type_inv.payload i).fits))
     c.requires
-    (ap (λ (x : PfdContentsRead). x.answer) read)
-    (ap (λ (x : PfdContentsRead). x.used) read)
-    (ap (λ (x : PfdContentsRead). meaning payload x.«record») read)
-    (λ r. ap (λ (x : PfdContentsRead). write_refusal payload x.«record») read ∙ writable r)
+    (ap (λ (x : Read PfdContents). x.answer) read)
+    (ap (λ (x : Read PfdContents). x.used) read)
+    (ap (λ (x : Read PfdContents). meaning payload x.«record») read)
+    (λ r. ap (λ (x : Read PfdContents). write_refusal payload x.«record») read ∙ writable r)
     c.marshal-written.ensures.value
     c.marshal-written.ensures.out_after
     c.row_of.ensures

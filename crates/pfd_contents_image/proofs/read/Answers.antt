@@ -21,10 +21,10 @@ put_image-requires c = search rules
 
 pub returns-in-Ok : goal.returns-in-Ok
 returns-in-Ok c =
-    let all = read_long _ _ _ (search rules) (accepted read _ _ c.put_image.ensures (enough _ _ c.if-n-gt65535.false c.if-n-lt2.false (rw c.in-Ok.is at c.read_fields.ensures))) in
+    let all = read_long _ _ _ (search rules) (accepted read _ _ c.put_image.ensures (enough _ _ (omega arith) (omega arith) (rw c.in-Ok.is at c.read_fields.ensures))) in
     record { value = all.0; image_after = all.1 }
 
 pub returns-in-Err : goal.returns-in-Err
 returns-in-Err c =
-    let all = read_long _ _ _ (search rules) (refusal read _ _ _ (c.put_refused-in-Err.ensures.value, c.put_refused-in-Err.ensures.out_after) (enough _ _ c.if-n-gt65535.false c.if-n-lt2.false (ap refused c.from.ensures ∙ (rw c.in-Err.is at c.read_fields.ensures)))) in
+    let all = read_long _ _ _ (search rules) (refusal read _ _ _ (c.put_refused-in-Err.ensures.value, c.put_refused-in-Err.ensures.out_after) (enough _ _ (omega arith) (omega arith) (ap refused c.from.ensures ∙ (rw c.in-Err.is at c.read_fields.ensures)))) in
     record { value = all.0; image_after = all.1 }

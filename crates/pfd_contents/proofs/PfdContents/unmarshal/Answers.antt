@@ -11,7 +11,7 @@ pub returns-then-n-lt2 : goal.returns-then-n-lt2
 returns-then-n-lt2 c = search too_short
 
 pub returns-in-Ok : goal.returns-in-Ok
-returns-in-Ok c = enough _ _ c.if-n-gt65535.false c.if-n-lt2.false (rw c.in-Ok.is at c.read_fields.ensures)
+returns-in-Ok c = enough _ _ (omega arith) (omega arith) (rw c.in-Ok.is at c.read_fields.ensures)
 
 pub returns-in-Err : goal.returns-in-Err
-returns-in-Err c = enough _ _ c.if-n-gt65535.false c.if-n-lt2.false (c.refused-in-Err.ensures ∙ ap refused c.from.ensures ∙ (rw c.in-Err.is at c.read_fields.ensures))
+returns-in-Err c = enough _ _ (omega arith) (omega arith) (c.refused-in-Err.ensures ∙ ap refused c.from.ensures ∙ (rw c.in-Err.is at c.read_fields.ensures))
