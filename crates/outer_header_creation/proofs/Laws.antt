@@ -23,7 +23,7 @@ ends s = ends_of (asked (flags_of (get_or s 0 0)))
 -- ---- what is written under a flag
 
 -- an address or a tag, where it is given too
-pub sent_given {ℓ} : {A : Type ℓ} (bytes : Option A → List ℕ) → bytes None ≡ [] → (f g : Bool) (x : A) → bytes (presence (f && g) x) ≡ sent_if f (bytes (presence g x))
+pub sent_given : {A : Type 0} (bytes : Option A → List ℕ) → bytes None ≡ [] → (f g : Bool) (x : A) → bytes (presence (f && g) x) ≡ sent_if f (bytes (presence g x))
 unfolding presence sent_if
 sent_given bytes e true g x = refl
 sent_given bytes e false g x = e
