@@ -11,7 +11,6 @@ ghost use Rattle.rows.specs.Values.{given, integer_value, hex_value, ipv4_value,
 ghost use Rattle.rows.specs.declared.Value.TheVariants.{Nothing, Count, Signed, Part, Quoted, Listed};
 ghost use Rattle.rows.specs.Row.{pieces, other, numbered, ends, puts};
 
-use lines::{after, least, left};
 use texts::Text;
 
 // A value of a row, by how it is shown.
@@ -139,10 +138,9 @@ fn line_end(words: &[u8], from: usize) -> usize
     ensures value { result ≡ min (from + suc (index_of 0x0A (drop from words.now))) (length words.now) }
     ensures upper_bound { result ≤ length words.now }
 {
-    least(
-        after(slices::find(words, from, words.len(), b'\n'), 1),
-        words.len(),
-    )
+    slices::find(words, from, words.len(), b'\n')
+        .saturating_add(1)
+        .min(words.len())
 }
 
 // The words of a row, by its number, where those of several stand one behind the other, each with its end.
@@ -150,12 +148,10 @@ pub fn row(words: &[u8], number: usize) -> &[u8]
     ensures { result.now ≡ numbered number words.now }
 {
     let mut from = 0;
-    let mut more = number;
-    while 0 < more {
+    for _ in 0..number {
         from = line_end(words, from);
-        more -= 1;
     }
-    texts::part(words, from, left(line_end(words, from), from))
+    texts::part(words, from, line_end(words, from).saturating_sub(from))
 }
 
 fn value_at(values: &[Value], i: usize) -> Value
