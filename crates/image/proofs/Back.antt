@@ -16,15 +16,11 @@ use Rattle.answer.specs.declared.Written.{Written}
 use Rattle.answer.specs.Paper.{written}
 use Rattle.kind.specs.Kind.{Kind, Reads}
 use Rattle.kind.proofs.Demand3.{demand3}
-use Rattle.octets.specs.declared.MaybeIpv4.{MaybeIpv4}
-use Rattle.octets.specs.declared.MaybeIpv6.{MaybeIpv6}
-use Rattle.octets.specs.declared.MaybeU16.{MaybeU16}
-use Rattle.octets.specs.declared.MaybeU32.{MaybeU32}
-use Rattle.octets.specs.Octets.{pick, bit, if_set, flag_byte, Bytes, field, big_endian, is_number, address_of, number_of, u16_of, u32_of, ipv4_of, ipv6_of, over, put}
-use Rattle.octets.proofs.Laws.{bytes_take, bytes_drop, big_endian_less_law, number_below, number_fits, ipv4_octets, ipv6_octets, put_fits}
+use Rattle.octets.specs.Octets.{pick, bit, if_set, flag_byte, Bytes, field, big_endian, is_number, address_of, number_of, over, put}
+use Rattle.octets.proofs.Laws.{bytes_take, bytes_drop, big_endian_less_law, number_below, number_fits, put_fits}
 use Rattle.std.specs.Prelude.{Option, Some, None, is_some, unwrap_or}
-use Rattle.image.specs.Image.{address_bytes, little_endian_bytes, little_endian, number_at, bytes_or_zeros, head, read_image}
-use Rattle.image.proofs.Laws.{length_little_endian_bytes_law, length_either, length_head}
+use Rattle.image.specs.Image.{address_bytes, little_endian_bytes, little_endian, number_at, head, read_image}
+use Rattle.image.proofs.Laws.{length_little_endian_bytes_law, length_head}
 
 -- ---- numbers and flags
 little_endian_bytes_back_law : (w x : ℕ) → x < 256 ^ w → little_endian (little_endian_bytes w x) ≡ x
@@ -61,19 +57,6 @@ flag_back (f ∷ fs) (suc k) = rw (shifted f (flag_byte fs)) (flag_back fs k)
 -- numbers that were read fit the bytes that they stood in
 pub field_below : (s : List ℕ) (at w m : ℕ) → Bytes s → w ≤ m → big_endian (field s at w) < 256 ^ m
 field_below s at w m b h = number_below s at w m _ h (big_endian_less_law (field s at w) (bytes_take w (drop at s) (bytes_drop at s b)))
-
-module _ (bs : List ℕ) (b : Bytes bs) where
-  below : {R : Type 0} (value : R → ℕ) (x y : R) (w : ℕ) → value x ≡ big_endian bs → value y ≡ 0 → 0 < 256 ^ w → (t : Bool) → t ≡ is_number w bs → value (pick t x y) < 256 ^ w
-  below value x y w vx vy h true e = rw vx (number_fits w bs true e refl _ (big_endian_less_law bs b))
-  below value x y w vx vy h false e = rw vy h
-
-  pub u16_below : (u16_of bs).value < 256 ^ 2
-  unfolding u16_of
-  u16_below = below (λ (x : MaybeU16). x.value) _ _ 2 refl refl (omega arith) (is_number 2 bs) refl
-
-  pub u32_below : (u32_of bs).value < 256 ^ 4
-  unfolding u32_of
-  u32_below = below (λ (x : MaybeU32). x.value) _ _ 4 refl refl (omega arith) (is_number 4 bs) refl
 
 -- and 0 where they are absent
 pub number_below_law : (w : ℕ) (bs : List ℕ) → Bytes bs → 0 < 256 ^ w → unwrap_or (number_of w bs) 0 < 256 ^ w
@@ -113,13 +96,6 @@ module _ {m ys : List ℕ} {at : ℕ} where
   pub number16 : (x : ℕ) → x < 256 ^ 2 → Stands m at (little_endian_bytes 8 x ++ ys) → (number_at m at % 65536 ≡ x) × Stands m (at + 8) ys
   number16 x small h = let (e, next) = number x (omega arith) h in (rw e (omega arith), next)
 
-  -- the bytes of an address
-  pub octets4 : (bs : List ℕ) → length bs ≡ 4 → Stands m at (bs ++ ys) → ((ipv4_of (field m at 4)).octets ≡ bs) × Stands m (at + 4) ys
-  octets4 bs l h = let (e, next) = part bs 4 l h in (rw e (ipv4_octets bs l), next)
-
-  pub octets6 : (bs : List ℕ) → length bs ≡ 16 → Stands m at (bs ++ ys) → ((ipv6_of (field m at 16)).octets ≡ bs) × Stands m (at + 16) ys
-  octets6 bs l h = let (e, next) = part bs 16 l h in (rw e (ipv6_octets bs l), next)
-
 -- a part that is two itself
 pub apart : {m : List ℕ} {at : ℕ} (xs zs ys : List ℕ) → Stands m at ((xs ++ zs) ++ ys) → Stands m at (xs ++ (zs ++ ys))
 apart xs zs ys h = record { rest = h.rest; is = h.is ∙ ap (λ (l : List ℕ). l ++ h.rest) (append_assoc xs zs ys) }
@@ -150,40 +126,6 @@ module _ (n : ℕ) (bs : List ℕ) where
           → address_of n (field m at (if_set (is_some (pick t (Some bs) None)) n)) ≡ pick t (Some bs) None
       go true q h = rw ((part {ys = ys} bs n (eqb-true (length bs) n q) h).0, q)
       go false q h = rw nothing
-
-module _ (bs : List ℕ) where
-  abbrev of4 : Bool → MaybeIpv4
-  of4 t = pick t (record { given = true; octets = bs }) (record { given = false; octets = replicate 4 0 })
-
-  abbrev of6 : Bool → MaybeIpv6
-  of6 t = pick t (record { given = true; octets = bs }) (record { given = false; octets = replicate 16 0 })
-
-  pub length4 : length (bytes_or_zeros 4 (ipv4_of bs).given (ipv4_of bs).octets) ≡ 4
-  unfolding ipv4_of
-  length4 = length_either (λ (a : MaybeIpv4). a.given) (λ (a : MaybeIpv4). a.octets) _ _ 4 refl refl refl (eqb (length bs) 4) (λ q. eqb-true (length bs) 4 q)
-
-  pub length6 : length (bytes_or_zeros 16 (ipv6_of bs).given (ipv6_of bs).octets) ≡ 16
-  unfolding ipv6_of
-  length6 = length_either (λ (a : MaybeIpv6). a.given) (λ (a : MaybeIpv6). a.octets) _ _ 16 refl refl refl (eqb (length bs) 16) (λ q. eqb-true (length bs) 16 q)
-
-  module _ {m ys : List ℕ} {at : ℕ} where
-    pub ipv4 : Stands m at (bytes_or_zeros 4 (ipv4_of bs).given (ipv4_of bs).octets ++ ys)
-        → (ipv4_of (field m at (if_set (ipv4_of bs).given 4)) ≡ ipv4_of bs) × Stands m (at + 4) ys
-    unfolding ipv4_of bytes_or_zeros if_set
-    ipv4 h = (go (eqb (length bs) 4) refl h, (part (bytes_or_zeros 4 (ipv4_of bs).given (ipv4_of bs).octets) 4 length4 h).1)
-      where
-        go : (t : Bool) → eqb (length bs) 4 ≡ t → Stands m at (bytes_or_zeros 4 (of4 t).given (of4 t).octets ++ ys) → ipv4_of (field m at (if_set (of4 t).given 4)) ≡ of4 t
-        go true q h = rw ((part {ys = ys} bs 4 (eqb-true (length bs) 4 q) h).0, q)
-        go false q h = refl
-
-    pub ipv6 : Stands m at (bytes_or_zeros 16 (ipv6_of bs).given (ipv6_of bs).octets ++ ys)
-        → (ipv6_of (field m at (if_set (ipv6_of bs).given 16)) ≡ ipv6_of bs) × Stands m (at + 16) ys
-    unfolding ipv6_of bytes_or_zeros if_set
-    ipv6 h = (go (eqb (length bs) 16) refl h, (part (bytes_or_zeros 16 (ipv6_of bs).given (ipv6_of bs).octets) 16 length6 h).1)
-      where
-        go : (t : Bool) → eqb (length bs) 16 ≡ t → Stands m at (bytes_or_zeros 16 (of6 t).given (of6 t).octets ++ ys) → ipv6_of (field m at (if_set (of6 t).given 16)) ≡ of6 t
-        go true q h = rw ((part {ys = ys} bs 16 (eqb-true (length bs) 16 q) h).0, q)
-        go false q h = refl
 
 -- ---- a record
 -- these bytes, so many, are a record's: wherever they stand behind a head, the record is found

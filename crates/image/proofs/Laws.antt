@@ -11,13 +11,10 @@ use borrow.Author.Tests.{le-leb, lt-leb, not-true, not-false}
 use Rattle.answer.specs.declared.Answer.{Answer}
 use Rattle.answer.specs.declared.Written.{Written}
 use Rattle.answer.specs.Paper.{number_of, written}
-use Rattle.octets.specs.declared.MaybeIpv4.{MaybeIpv4}
-use Rattle.octets.specs.declared.MaybeIpv6.{MaybeIpv6}
-use Rattle.octets.specs.Octets.{pick, if_set, field, ipv4_of, ipv6_of, over, put}
+use Rattle.octets.specs.Octets.{pick, if_set, field, over, put}
 use Rattle.octets.proofs.Laws.{put_fits, put_not, put_nil, length_over}
 use Rattle.std.specs.Prelude.{Option, Some, None, IfSome}
-use Rattle.image.specs.Image.{address_bytes, little_endian_bytes, little_endian, bytes_or_zeros, head, head_size, refusal_image, report, read_number, read_image, write_number, write_output, write_report}
-use Rattle.image.specs.Steps.{ZerosIfAbsent4, ZerosIfAbsent6}
+use Rattle.image.specs.Image.{address_bytes, little_endian_bytes, little_endian, head, head_size, refusal_image, report, read_number, read_image, write_number, write_output, write_report}
 
 -- ---- numbers
 pub length_little_endian_bytes_law : (w x : ℕ) → length (little_endian_bytes w x) ≡ w
@@ -56,9 +53,6 @@ zeros (suc n) (suc m) = zeros n m
 pub part_at : {A : Type 0} (f : List ℕ → A) (m p : List ℕ) (at u w : ℕ) (g : Bool) (r : A) → u ≡ if_set g w → p ≡ take u (drop at m) → r ≡ f p → r ≡ f (field m at (if_set g w))
 part_at f m p at u w g r k q e = rw (q, k) at e
 
-pub part_value_law : {A : Type 0} (f : List ℕ → A) (value : A → ℕ) (m p : List ℕ) (at u w : ℕ) (g : Bool) (r : A) → u ≡ if_set g w → p ≡ take u (drop at m) → r ≡ f p → value r ≡ value (f (field m at (if_set g w)))
-part_value_law f value m p at u w g r k q e = ap value (part_at f m p at u w g r k q e)
-
 -- ---- bytes put before those that stand already are one put of the joined bytes
 over_before : (d : List ℕ) (at m : ℕ) (xs ys : List ℕ) → m ≡ at + length xs → m + length ys ≤ length d → over (over d m ys) at xs ≡ over d at (xs ++ ys)
 unfolding over
@@ -94,42 +88,10 @@ before d d' e at m xs ys q p k h =
     ∙ sym (put_fits d at (xs ++ ys) (omega (arith, length-append xs ys)))
 
 -- ---- how long the parts are
-pub length_bytes_or_zeros_law : (w : ℕ) (g : Bool) (bs : List ℕ) → length bs ≡ w → length (bytes_or_zeros w g bs) ≡ w
-unfolding bytes_or_zeros
-length_bytes_or_zeros_law w true bs e = e
-length_bytes_or_zeros_law w false bs e = length-replicate w 0
-
 pub length_address_bytes : (n : ℕ) (a : Option (List ℕ)) → IfSome a (λ bs. length bs ≡ n) → length (address_bytes n a) ≡ n
 unfolding address_bytes
 length_address_bytes n (Some bs) e = e
 length_address_bytes n None e = length-replicate n 0
-
--- one of two addresses, one that is given and one that is absent and zeros
-module _ {R : Type 0} (given : R → Bool) (octets : R → List ℕ) (x y : R) (w : ℕ) (gx : given x ≡ true) (gy : given y ≡ false) (zs : octets y ≡ replicate w 0) where
-  zeros_either : (t : Bool) → bytes_or_zeros w (given (pick t x y)) (octets (pick t x y)) ≡ octets (pick t x y)
-  unfolding bytes_or_zeros
-  zeros_either true = rw gx
-  zeros_either false = rw gy (sym zs)
-
-  pub length_either : (t : Bool) → (t ≡ true → length (octets x) ≡ w) → length (bytes_or_zeros w (given (pick t x y)) (octets (pick t x y))) ≡ w
-  unfolding bytes_or_zeros
-  length_either true h = rw gx (h refl)
-  length_either false h = rw gy (length-replicate w 0)
-
--- the addresses that a reader makes are zeros where they are absent
-pub zeros_if_absent4 : (bs : List ℕ) → ZerosIfAbsent4 (ipv4_of bs)
-unfolding ipv4_of
-zeros_if_absent4 bs = zeros_either (λ (a : MaybeIpv4). a.given) (λ (a : MaybeIpv4). a.octets) _ _ 4 refl refl refl (eqb (length bs) 4)
-
-pub zeros_if_absent6 : (bs : List ℕ) → ZerosIfAbsent6 (ipv6_of bs)
-unfolding ipv6_of
-zeros_if_absent6 bs = zeros_either (λ (a : MaybeIpv6). a.given) (λ (a : MaybeIpv6). a.octets) _ _ 16 refl refl refl (eqb (length bs) 16)
-
-pub zeros4 : (a : MaybeIpv4) (bs : List ℕ) → a ≡ ipv4_of bs → ZerosIfAbsent4 a
-zeros4 a bs e = rw e (zeros_if_absent4 bs)
-
-pub zeros6 : (a : MaybeIpv6) (bs : List ℕ) → a ≡ ipv6_of bs → ZerosIfAbsent6 a
-zeros6 a bs e = rw e (zeros_if_absent6 bs)
 
 pub length_head : (a : Answer) (n : ℕ) → length (head a n) ≡ 40
 unfolding head
@@ -157,18 +119,12 @@ module _ {d d' ys : List ℕ} {size m : ℕ} (b : Back d size m ys d') where
   pub then_part : {e : List ℕ} (w at : ℕ) (xs : List ℕ) → length xs ≡ w → e ≡ put d' at xs → m ≡ at + w → Back d size at (xs ++ ys) e
   then_part w at xs l q k = step at xs q (omega arith)
 
-  pub then_field : {e : List ℕ} (w at : ℕ) (g : Bool) (bs : List ℕ) → length bs ≡ w → e ≡ put d' at (bytes_or_zeros w g bs) → m ≡ at + w → Back d size at (bytes_or_zeros w g bs ++ ys) e
-  then_field w at g bs l q k = then_part w at (bytes_or_zeros w g bs) (length_bytes_or_zeros_law w g bs l) q k
-
   pub then_head : {e : List ℕ} (a : Answer) (n : ℕ) → e ≡ put d' 0 (head a n) → m ≡ 40 → e ≡ put d 0 (head a n ++ ys)
   then_head a n q k = (step 0 (head a n) q (omega (arith, length_head a n))).is
 
 -- the last field of an image
 pub last_part : {d e : List ℕ} (size w at : ℕ) (xs : List ℕ) → size ≤ length d → length xs ≡ w → at + w ≡ size → e ≡ put d at xs → Back d size at xs e
 last_part size w at xs r l k q = record { room = r; ends = omega arith; is = q }
-
-pub last_field : {d e : List ℕ} (size w at : ℕ) (g : Bool) (bs : List ℕ) → size ≤ length d → length bs ≡ w → at + w ≡ size → e ≡ put d at (bytes_or_zeros w g bs) → Back d size at (bytes_or_zeros w g bs) e
-last_field size w at g bs r l k q = last_part size w at (bytes_or_zeros w g bs) r (length_bytes_or_zeros_law w g bs l) k q
 
 -- ---- the image of a refused read
 module _ (size : ℕ) (d : List ℕ) (a : Answer) where

@@ -19,10 +19,6 @@ little_endian (b ∷ bs) = b + 256 * little_endian bs
 abbrev pub number_at : List ℕ → ℕ → ℕ
 number_at m at = little_endian (field m at 8)
 
--- the w bytes of a field, zeros where it is absent
-unfoldable pub bytes_or_zeros : ℕ → Bool → List ℕ → List ℕ
-bytes_or_zeros w given bs = pick given bs (replicate w 0)
-
 -- the n bytes of an address, zeros where it is absent
 unfoldable pub address_bytes : ℕ → Option (List ℕ) → List ℕ
 address_bytes n a = unwrap_or a (replicate n 0)

@@ -5,11 +5,10 @@
 ghost use Rattle.std.specs.Prelude.{◌≡◌, ◌∷◌, [], ◌&&◌, ◌+◌, ◌*◌, get_or, leb, unwrap_or, None};
 ghost use Rattle.answer.specs.declared.Answer.TheVariants.{Short, Flags};
 ghost use Rattle.answer.specs.Paper.{number_of};
-ghost use Rattle.octets.specs.Octets.{pick, if_set, field, u16_of, u32_of, ipv4_of, ipv6_of, put, address_of, number_of as number_in};
+ghost use Rattle.octets.specs.Octets.{pick, if_set, field, put, address_of, number_of as number_in};
 ghost use Rattle.image.specs.Image.{little_endian_bytes, number_at, head_size, head, refusal_image, report, address_bytes};
 
 use answer::{Answer, Written};
-use octets::{MaybeIpv4, MaybeIpv6, MaybeU16, MaybeU32};
 
 // Where the numbers of a head stand, each of eight bytes; and how long a head, and a report, is.
 const ANSWER: usize = 0;
@@ -81,18 +80,6 @@ pub fn byte_at(image: &[u8], at: usize) -> u8
 }
 
 // The address at a place of an image or of a payload, where it is given.
-pub fn ipv4_at(bytes: &[u8], at: usize, given: bool) -> MaybeIpv4
-    ensures { result ≡ ipv4_of (field bytes.now at (if_set given 4)) }
-{
-    MaybeIpv4::of(texts::part(bytes, at, octets::if_set(given, 4)))
-}
-
-pub fn ipv6_at(bytes: &[u8], at: usize, given: bool) -> MaybeIpv6
-    ensures { result ≡ ipv6_of (field bytes.now at (if_set given 16)) }
-{
-    MaybeIpv6::of(texts::part(bytes, at, octets::if_set(given, 16)))
-}
-
 pub fn address_at<const N: usize>(bytes: &[u8], at: usize, given: bool) -> Option<[u8; N]>
     ensures { result ≡ address_of N (field bytes.now at (if_set given N)) }
 {
@@ -111,21 +98,6 @@ pub fn number_or_zero<const W: usize>(bytes: &[u8], at: usize, width: usize, giv
     ensures { result ≡ unwrap_or (pick (leb W 8) (number_in W (field bytes.now at (if_set given width))) None) 0 }
 {
     octets::number_of::<W>(texts::part(bytes, at, octets::if_set(given, width))).unwrap_or(0)
-}
-
-// The number at a place of a payload, 0 where it isn't given.
-pub fn u16_at(bytes: &[u8], at: usize, given: bool) -> u16
-    ensures { result ≡ (u16_of (field bytes.now at (if_set given 2))).value }
-{
-    let number = MaybeU16::of(texts::part(bytes, at, octets::if_set(given, 2)));
-    number.value
-}
-
-pub fn u32_at(bytes: &[u8], at: usize, width: usize, given: bool) -> u32
-    ensures { result ≡ (u32_of (field bytes.now at (if_set given width))).value }
-{
-    let number = MaybeU32::of(texts::part(bytes, at, octets::if_set(given, width)));
-    number.value
 }
 
 // Puts what an image begins with: the answer's number and values, and a count. From the back to the front, as all of an image.

@@ -15,26 +15,6 @@ pub struct Seid(pub u64);
 #[derive(Clone, Copy)]
 pub struct SequenceNumber(pub u32);
 
-// A tunnel endpoint identifier that may be absent.
-#[derive(Clone, Copy)]
-pub struct MaybeTeid {
-    pub given: bool,
-    pub value: Teid,
-}
-
-impl MaybeTeid {
-    pub const ABSENT: MaybeTeid = MaybeTeid {
-        given: false,
-        value: Teid(0),
-    };
-
-    pub fn new(value: Teid) -> MaybeTeid
-        ensures { result ≡ record { given = true; value = value } }
-    {
-        MaybeTeid { given: true, value }
-    }
-}
-
 impl Teid {
     pub fn new(value: u32) -> Teid
         ensures { result ≡ record { 0 = value } }
