@@ -279,7 +279,12 @@ module _ (f : Bool) (w : ℕ) (bs : List ℕ) (b : Bytes bs) (h : 0 < w) (e : le
   unfolding number_of presence
   number_written m k = rw (number_there m k f refl e) number_again
 
--- how long a number is that may be absent
+-- how long a number is under a flag, and one that may be absent
+pub number_length : (g : Bool) (w x : ℕ) → length (number_if w (presence g x)) ≡ if_set g w
+unfolding number_if presence if_set
+number_length true w x = length_big_endian_bytes_law w x
+number_length false w x = refl
+
 pub length_number_if : (w : ℕ) (o : Option ℕ) → length (number_if w o) ≡ if_set (is_some o) w
 unfolding number_if if_set
 length_number_if w (Some x) = length_big_endian_bytes_law w x
