@@ -3,32 +3,34 @@ use Rattle.std.specs.Prelude.{ℕ, Bool, not, ◌&&◌, List, [], ◌∷◌, eqb
 use Rattle.octets.specs.Octets.{pick, big_endian}
 use Rattle.rows.specs.Values.{absent, nothing, signed_value, hex_value, ipv6_value, text_value, list_value}
 use Rattle.node_id.specs.declared.NodeId.{NodeId}
-use Rattle.node_id.specs.declared.NodeIdType.{NodeIdType}
-use Rattle.node_id.specs.declared.NodeIdType.TheVariants.{Ipv4, Ipv6, Fqdn}
+use Rattle.node_id.specs.declared.NodeId.TheVariants.{Ipv4, Ipv6, Fqdn}
 use Rattle.text_fields.specs.declared.MaybeText.{MaybeText}
 use Rattle.text_fields.specs.declared.TextList.{TextList}
 use Rattle.pfd_contents.specs.declared.PfdContents.{PfdContents}
 
-abbrev pub type_number : NodeIdType → ℕ
-type_number Ipv4 = 0
-type_number Ipv6 = 1
-type_number Fqdn = 2
+abbrev pub type_number : NodeId → ℕ
+type_number (Ipv4 a) = 0
+type_number (Ipv6 a) = 1
+type_number (Fqdn name) = 2
 
--- the field of a Node ID that its type names
-abbrev pub field_by : NodeIdType → NodeId → List ℕ
-field_by Ipv4 n = hex_value 4 0 (big_endian n.ipv4_address)
-field_by Ipv6 n = ipv6_value n.ipv6_address
-field_by Fqdn n = text_value n.name.place n.name.len
-
+-- the address or the name
 abbrev pub node_id_field : NodeId → List ℕ
-node_id_field n = field_by n.kind n
+node_id_field (Ipv4 a) = hex_value 4 0 (big_endian a)
+node_id_field (Ipv6 a) = ipv6_value a
+node_id_field (Fqdn name) = text_value name.place name.len
+
+-- the place of the name, 0 of an address
+abbrev pub name_place : NodeId → ℕ
+name_place (Ipv4 a) = 0
+name_place (Ipv6 a) = 0
+name_place (Fqdn name) = name.place
 
 -- a number behind a sign, where it is shown
 abbrev pub behind_sign : Bool → ℕ → ℕ → List ℕ
 behind_sign shown sign n = pick shown (signed_value sign n) nothing
 
 abbrev pub node_id_values : NodeId → Bool → List (List ℕ)
-node_id_values n places = node_id_field n ∷ behind_sign places 0x40 n.name.place ∷ []
+node_id_values n places = node_id_field n ∷ behind_sign places 0x40 (name_place n) ∷ []
 
 abbrev pub text_of : MaybeText → List ℕ
 text_of x = pick x.given (text_value x.place x.len) absent

@@ -1,9 +1,9 @@
 // The fields of records with texts. These stand in a slice that goes with the record, and are shown with their places where these are
 // asked for.
 ghost use Rattle.std.specs.Prelude.{◌≡◌};
-ghost use Rattle.details.specs.Texted.{type_number, node_id_field, node_id_values, text_of, place_of, list_of, run_place_of, run_len_of, pfd_contents_values};
+ghost use Rattle.details.specs.Texted.{type_number, node_id_field, name_place, node_id_values, text_of, place_of, list_of, run_place_of, run_len_of, pfd_contents_values};
 
-use node_id::{NodeId, NodeIdType};
+use node_id::NodeId;
 use octets::{MaybeIpv4, MaybeIpv6, both};
 use pfd_contents::PfdContents;
 use rows::Value;
@@ -17,27 +17,33 @@ pub const PFD_CONTENTS: [u8; 72] =
 
 // The number of a Node ID's type.
 pub fn node_id_type(record: NodeId) -> usize
-    ensures { result ≡ type_number «record».kind }
+    ensures { result ≡ type_number «record» }
 {
-    let kind = record.kind;
-    match kind {
-        NodeIdType::Ipv4 => 0,
-        NodeIdType::Ipv6 => 1,
-        NodeIdType::Fqdn => 2,
+    match record {
+        NodeId::Ipv4(_) => 0,
+        NodeId::Ipv6(_) => 1,
+        NodeId::Fqdn(_) => 2,
     }
 }
 
-// The field of a Node ID that counts.
+// The address or the name.
 fn field_of(record: NodeId) -> Value
     ensures { result ≡ node_id_field «record» }
 {
-    let kind = record.kind;
-    let ipv4 = record.ipv4_address;
-    let ipv6 = record.ipv6_address;
-    match kind {
-        NodeIdType::Ipv4 => rows::ipv4(MaybeIpv4::new(ipv4)),
-        NodeIdType::Ipv6 => rows::ipv6(MaybeIpv6::new(ipv6)),
-        NodeIdType::Fqdn => rows::text(true, record.name.place, record.name.len),
+    match record {
+        NodeId::Ipv4(address) => rows::ipv4(MaybeIpv4::new(address)),
+        NodeId::Ipv6(address) => rows::ipv6(MaybeIpv6::new(address)),
+        NodeId::Fqdn(name) => rows::text(true, name.place, name.len),
+    }
+}
+
+// The place of the name, 0 of an address.
+fn name_place(record: NodeId) -> usize
+    ensures { result ≡ name_place «record» }
+{
+    match record {
+        NodeId::Fqdn(name) => name.place,
+        NodeId::Ipv4(_) | NodeId::Ipv6(_) => 0,
     }
 }
 
@@ -46,7 +52,7 @@ pub fn node_id(record: NodeId, places: bool) -> [Value; 2]
 {
     [
         field_of(record),
-        rows::signed(places, b'@', record.name.place),
+        rows::signed(places, b'@', name_place(record)),
     ]
 }
 
