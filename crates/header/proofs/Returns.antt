@@ -10,16 +10,17 @@ use Rattle.answer.specs.declared.Answer.TheVariants.{Done, Short, InputTooLong}
 use Rattle.octets.specs.Octets.{pick, bit, if_set, flag_byte, field, big_endian}
 use Rattle.octets.proofs.Laws.{number_field}
 use Rattle.kind.proofs.Cases.{stop_long, stop_head, stop_field, all_there, width_if_set_law}
-use Rattle.header.specs.declared.HeaderRead.{HeaderRead}
+use Rattle.answer.specs.declared.Read.{Read}
+use Rattle.header.specs.declared.Header.{Header}
 use Rattle.header.specs.Header.{layout, read, found, refused, record_of, place}
 use Rattle.header.proofs.Laws.{two_halves}
 
 module _ (s : List ℕ) where
-  pub too_long : (r : HeaderRead) → 65535 < length s → r ≡ refused (InputTooLong (length s)) → r ≡ read s
+  pub too_long : (r : Read Header) → 65535 < length s → r ≡ refused (InputTooLong (length s)) → r ≡ read s
   unfolding read found
   too_long r = stop_long found layout s r
 
-  pub no_head : (r : HeaderRead) → length s ≤ 65535 → length s < 8 → r ≡ refused (Short 0 8 (length s)) → r ≡ read s
+  pub no_head : (r : Read Header) → length s ≤ 65535 → length s < 8 → r ≡ refused (Short 0 8 (length s)) → r ≡ read s
   unfolding read found
   no_head r = stop_head found layout s r
 
@@ -28,11 +29,11 @@ module _ (s : List ℕ) where
     w : u ≡ if_set (bit 0 (get_or s 0 0)) 4
     w = width_if_set_law s 0 4 sent u d e
 
-    pub no_first_half : (r : HeaderRead) → 8 ≤ length s → length s < 8 + u → r ≡ refused (Short 0 (8 + u) (length s)) → r ≡ read s
+    pub no_first_half : (r : Read Header) → 8 ≤ length s → length s < 8 + u → r ≡ refused (Short 0 (8 + u) (length s)) → r ≡ read s
     unfolding read found
     no_first_half r = stop_field found layout s r f refl 0 0 _ 4 _ 8 (8 + u) refl refl (ap (λ (x : ℕ). 8 + x) w)
 
-    pub no_second_half : (r : HeaderRead) → 8 + u ≤ length s → length s < 8 + u + u → r ≡ refused (Short 0 (8 + u + u) (length s)) → r ≡ read s
+    pub no_second_half : (r : Read Header) → 8 + u ≤ length s → length s < 8 + u + u → r ≡ refused (Short 0 (8 + u + u) (length s)) → r ≡ read s
     unfolding read found
     no_second_half r = stop_field found layout s r f refl 1 0 _ 4 _ (8 + u) (8 + u + u) refl (omega (arith, w)) (ap (λ (x : ℕ). 8 + u + x) w)
 

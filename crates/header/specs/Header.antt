@@ -2,13 +2,13 @@
 use Rattle.std.specs.Prelude.{ℕ, ◌+◌, Bool, false, List, [], ◌∷◌, ◌++◌, get_or}
 use Rattle.answer.specs.declared.Answer.{Answer}
 use Rattle.answer.specs.declared.Answer.TheVariants.{Done}
+use Rattle.answer.specs.declared.Read.{Read}
 use Rattle.types.specs.declared.Seid.{Seid}
 use Rattle.types.specs.declared.SequenceNumber.{SequenceNumber}
 use Rattle.octets.specs.Octets.{bit, if_set, flag_byte, field, big_endian, big_endian_bytes, number_if, presence}
 use Rattle.kind.specs.Layout.{wanted, Layout, Outcome, accepts, refuses, outcome}
 use Rattle.kind.specs.Kind.{Reader}
 use Rattle.header.specs.declared.Header.{Header}
-use Rattle.header.specs.declared.HeaderRead.{HeaderRead}
 
 -- the first byte: bit 0 SEID, 1 MP, 2 FO, 5 to 7 the version's low three bits; bits 3 and 4 are 0
 abbrev pub first_of : Header → ℕ
@@ -69,15 +69,15 @@ empty =
     }
 
 -- a refused read: the empty record and used 0
-unfoldable pub refused : Answer → HeaderRead
+unfoldable pub refused : Answer → Read Header
 refused a = record { answer = a; used = 0; «record» = empty }
 
-unfoldable pub found : List ℕ → Outcome → HeaderRead
+unfoldable pub found : List ℕ → Outcome → Read Header
 found s (accepts n) = record { answer = Done; used = n; «record» = record_of s }
 found s (refuses a) = refused a
 
 -- what reading a header answers
-unfoldable pub read : List ℕ → HeaderRead
+unfoldable pub read : List ℕ → Read Header
 read s = found s (outcome layout s)
 
 -- a record means itself: it has no texts and no absent fields

@@ -6,7 +6,7 @@ ghost use Rattle.octets.specs.Octets.{put};
 ghost use Rattle.answer.specs.Paper.{written};
 ghost use Rattle.header.specs.Header.{made, wire, read, refused};
 
-use answer::{Answer, Written};
+use answer::{Answer, Read, Written};
 use types::{Seid, SequenceNumber};
 
 #[derive(Clone, Copy)]
@@ -14,6 +14,7 @@ pub struct Header {
     pub version: u8,
     pub has_fo: bool,
     pub has_mp: bool,
+    // Beside `seid` and no `Option`: `new` is handed both, and by its promise `made` a SEID that isn't sent is kept.
     pub has_seid: bool,
     pub message_type: u8,
     pub length: u16,
@@ -22,33 +23,17 @@ pub struct Header {
     pub message_priority: u8,
 }
 
-// What reading a header answers; the record is empty where it is refused.
-#[derive(Clone, Copy)]
-pub struct HeaderRead {
-    pub answer: Answer,
-    pub used: usize,
-    pub record: Header,
-}
-
 // A refused read.
-fn refused(answer: Answer) -> HeaderRead
+fn refused(answer: Answer) -> Read<Header>
     ensures { result ≡ refused answer }
 {
-    HeaderRead {
+    Read::refused(
         answer,
-        used: 0,
-        record: Header {
+        Header {
             version: 0,
-            has_fo: false,
-            has_mp: false,
-            has_seid: false,
-            message_type: 0,
-            length: 0,
-            seid: Seid(0),
-            sequence_number: SequenceNumber(0),
-            message_priority: 0,
+            ..Header::new(0, false, Seid(0), SequenceNumber(0))
         },
-    }
+    )
 }
 
 impl Header {
@@ -79,7 +64,7 @@ impl Header {
         }
     }
 
-    pub fn unmarshal(payload: &[u8]) -> HeaderRead
+    pub fn unmarshal(payload: &[u8]) -> Read<Header>
         ensures { result ≡ read payload.now }
     {
         let n = payload.len();
@@ -117,7 +102,7 @@ impl Header {
         let length = octets::number(&payload[2..4]);
         let seid = octets::number(&payload[4..at]);
         let sequence = octets::number(&payload[at..at + 3]);
-        HeaderRead {
+        Read {
             answer: Answer::Done,
             used: end16,
             record: Header {
@@ -164,7 +149,7 @@ impl Header {
         octets::put_byte(out, 0, flags);
         octets::put_byte(out, 1, self.message_type);
         octets::put_number(out, 2, 2, self.length as u64);
-        octets::put_number_given(out, 4, 8, self.has_seid, self.seid.0);
+        octets::put_number_if(out, 4, 8, self.has_seid.then_some(self.seid.0));
         octets::put_number(out, at, 3, self.sequence_number.0 as u64);
         octets::put_byte(out, last, self.message_priority);
         Written {

@@ -1,8 +1,7 @@
 -- `header::refused` meets its contract.
-use mathlib.Core.Path.{refl}
 use Rattle.header.specs.Header.{refused}
 use Rattle.header.proofs.refused.Goals as goal
 
 pub returns : goal.returns
 unfolding refused
-returns c = refl
+returns c = rw c.new.ensures at c.refused.ensures
