@@ -67,6 +67,14 @@ fn put_image(out: &mut [u8], used: usize, record: UeIpAddress)
 // A read goes straight into the image, without the record and the copies that `UeIpAddress::unmarshal` makes. The flags that say
 // which fields follow are passed on as constants where that is quicker: the compiler then knows every place and width.
 
+// A payload that has its flags and isn't too long.
+#[derive(Clone, Copy)]
+struct Payload<'a> {
+    bytes: &'a [u8],
+    ghost in_bounds: { 1 ≤ length bytes.now },
+    ghost len_bound: { length bytes.now ≤ 65535 },
+}
+
 // The number of the field that is cut behind the addresses: only one follows them.
 fn last_field(ipv6d: bool) -> u8
     ensures { result ≡ pick ipv6d 3 4 }
@@ -76,24 +84,22 @@ fn last_field(ipv6d: bool) -> u8
 
 // Reads the fields of a payload whose flags break no rule.
 fn read_fields(
-    payload: &[u8],
+    payload: Payload,
     image: &mut [u8],
     v4: bool,
     v6: bool,
     ipv6d: bool,
     ip6pl: bool,
 ) -> u64
-    requires in_bounds { 1 ≤ length payload.now }
-    requires payload_len_bound { length payload.now ≤ 65535 }
-    requires payload_value { broken_rule (get_or payload.now 0 0) ≡ 0 }
-    requires v4_value { v4 ≡ bit 1 (get_or payload.now 0 0) }
-    requires v6_value { v6 ≡ bit 0 (get_or payload.now 0 0) }
-    requires ipv6d_value { ipv6d ≡ bit 3 (get_or payload.now 0 0) }
-    requires ip6pl_value { ip6pl ≡ bit 6 (get_or payload.now 0 0) }
-    ensures value { result ≡ number_of (read payload.now).answer }
-    ensures image_after { image.new ≡ put image.old 0 (image_of (read payload.now)) }
+    requires unbroken { broken_rule (get_or payload.bytes.now 0 0) ≡ 0 }
+    requires v4_value { v4 ≡ bit 1 (get_or payload.bytes.now 0 0) }
+    requires v6_value { v6 ≡ bit 0 (get_or payload.bytes.now 0 0) }
+    requires ipv6d_value { ipv6d ≡ bit 3 (get_or payload.bytes.now 0 0) }
+    requires ip6pl_value { ip6pl ≡ bit 6 (get_or payload.bytes.now 0 0) }
+    ensures value { result ≡ number_of (read payload.entry.bytes.now).answer }
+    ensures image_after { image.new ≡ put image.old 0 (image_of (read payload.entry.bytes.now)) }
 {
-    let n = payload.len();
+    let n = payload.bytes.len();
     let end4 = 1 + octets::if_set(v4, 4);
     if n < end4 {
         return image::put_short(image, SIZE, 1, end4, n);
@@ -107,7 +113,7 @@ fn read_fields(
     if n < end {
         return image::put_short(image, SIZE, last_field(ipv6d), end, n);
     }
-    let flags = payload[0];
+    let flags = payload.bytes[0];
     let record = UeIpAddress {
         v4,
         v6,
@@ -116,26 +122,24 @@ fn read_fields(
         choose_ipv4: octets::bit(flags, 4),
         choose_ipv6: octets::bit(flags, 5),
         ipv6_prefix_length_present: ip6pl,
-        ipv4_address: octets::address(&payload[1..end4]),
-        ipv6_address: octets::address(&payload[end4..end6]),
-        ipv6_prefix_delegation_bits: octets::u8_of(&payload[end6..end_bits]),
-        ipv6_prefix_length: octets::u8_of(&payload[end_bits..end]),
+        ipv4_address: octets::address(&payload.bytes[1..end4]),
+        ipv6_address: octets::address(&payload.bytes[end4..end6]),
+        ipv6_prefix_delegation_bits: octets::u8_of(&payload.bytes[end6..end_bits]),
+        ipv6_prefix_length: octets::u8_of(&payload.bytes[end_bits..end]),
     };
     put_image(image, end, record);
     0
 }
 
 // Reads a payload without IPv6D and IP6PL, by V4 and V6.
-fn read_addresses(payload: &[u8], image: &mut [u8]) -> u64
-    requires in_bounds { 1 ≤ length payload.now }
-    requires payload_len_bound { length payload.now ≤ 65535 }
-    requires payload_value { broken_rule (get_or payload.now 0 0) ≡ 0 }
-    requires false_value { false ≡ bit 3 (get_or payload.now 0 0) }
-    requires false_value_2 { false ≡ bit 6 (get_or payload.now 0 0) }
-    ensures value { result ≡ number_of (read payload.now).answer }
-    ensures image_after { image.new ≡ put image.old 0 (image_of (read payload.now)) }
+fn read_addresses(payload: Payload, image: &mut [u8]) -> u64
+    requires unbroken { broken_rule (get_or payload.bytes.now 0 0) ≡ 0 }
+    requires ipv6d_unset { false ≡ bit 3 (get_or payload.bytes.now 0 0) }
+    requires ip6pl_unset { false ≡ bit 6 (get_or payload.bytes.now 0 0) }
+    ensures value { result ≡ number_of (read payload.entry.bytes.now).answer }
+    ensures image_after { image.new ≡ put image.old 0 (image_of (read payload.entry.bytes.now)) }
 {
-    let flags = payload[0];
+    let flags = payload.bytes[0];
     let v6 = octets::bit(flags, 0);
     if octets::bit(flags, 1) {
         if v6 {
@@ -150,15 +154,13 @@ fn read_addresses(payload: &[u8], image: &mut [u8]) -> u64
 }
 
 // Reads a payload with IPv6D or IP6PL, which keeps rule 1.
-fn read_prefixed(payload: &[u8], image: &mut [u8]) -> u64
-    requires in_bounds { 1 ≤ length payload.now }
-    requires payload_len_bound { length payload.now ≤ 65535 }
-    requires payload_value { breaks_rule1 (get_or payload.now 0 0) ≡ false }
-    requires payload_value_2 { bit 3 (get_or payload.now 0 0) || bit 6 (get_or payload.now 0 0) ≡ true }
-    ensures value { result ≡ number_of (read payload.now).answer }
-    ensures image_after { image.new ≡ put image.old 0 (image_of (read payload.now)) }
+fn read_prefixed(payload: Payload, image: &mut [u8]) -> u64
+    requires keeps_rule1 { breaks_rule1 (get_or payload.bytes.now 0 0) ≡ false }
+    requires prefixed { bit 3 (get_or payload.bytes.now 0 0) || bit 6 (get_or payload.bytes.now 0 0) ≡ true }
+    ensures value { result ≡ number_of (read payload.entry.bytes.now).answer }
+    ensures image_after { image.new ≡ put image.old 0 (image_of (read payload.entry.bytes.now)) }
 {
-    let flags = payload[0];
+    let flags = payload.bytes[0];
     if ue_ip_address::breaks_rule_2(flags) {
         return image::put_flags(image, SIZE, flags, 2);
     }
@@ -212,6 +214,7 @@ pub fn read(payload: &[u8], image: &mut [u8]) -> u64
     if ue_ip_address::breaks_rule_1(flags) {
         return image::put_flags(image, SIZE, flags, 1);
     }
+    let payload = Payload { bytes: payload };
     if octets::either(octets::bit(flags, 3), octets::bit(flags, 6)) {
         return read_prefixed(payload, image);
     }

@@ -25,19 +25,19 @@ module _ (b : ℕ) {x : Bool} (e : x ≡ bit 3 b) where
 
 pub returns-then-breaks_rule_2 : goal.returns-then-breaks_rule_2
 returns-then-breaks_rule_2 c =
-    let all = refusal _ _ _ (c.put_flags.ensures.value, c.put_flags.ensures.out_after)
-    (forbidden _ c.requires.payload_len_bound c.requires.in_bounds _ _ (rule2 _ refl c.requires.payload_value c.breaks_rule_2.ensures c.if-breaks_rule_2.true) (λ z. omega arith) refl) in record { value = all.0; image_after = all.1 }
+    refusal _ _ _ c.put_flags.ensures
+    (forbidden _ c.args.payload.len_bound c.args.payload.in_bounds _ _ (rule2 _ refl c.requires.keeps_rule1 c.breaks_rule_2.ensures c.if-breaks_rule_2.true) (λ z. omega arith) refl)
 
 pub returns-then-breaks_rule_3 : goal.returns-then-breaks_rule_3
 returns-then-breaks_rule_3 c =
-    let all = refusal _ _ _ (c.put_flags-then-breaks_rule_3.ensures.value, c.put_flags-then-breaks_rule_3.ensures.out_after)
-    (forbidden _ c.requires.payload_len_bound c.requires.in_bounds _ _ (rule3 _ refl c.requires.payload_value c.breaks_rule_2.ensures c.if-breaks_rule_2.false c.breaks_rule_3.ensures c.if-breaks_rule_3.true) (λ z. omega arith) refl) in record { value = all.0; image_after = all.1 }
+    refusal _ _ _ c.put_flags-then-breaks_rule_3.ensures
+    (forbidden _ c.args.payload.len_bound c.args.payload.in_bounds _ _ (rule3 _ refl c.requires.keeps_rule1 c.breaks_rule_2.ensures c.if-breaks_rule_2.false c.breaks_rule_3.ensures c.if-breaks_rule_3.true) (λ z. omega arith) refl)
 
 pub read_fields-requires : goal.read_fields-requires
 read_fields-requires c =
-    let b = get_or c.args.payload.now 0 0 in
-    let one = not_second b c.bit.ensures c.breaks_rule_2.ensures c.if-breaks_rule_2.false c.if-bit.true in record { in_bounds = search rules; payload_len_bound = search rules; payload_value = search free; v4_value = search rules; v6_value = search rules; ipv6d_value = one.0; ip6pl_value = one.1 }
+    let b = get_or c.args.payload.bytes.now 0 0 in
+    let one = not_second b c.bit.ensures c.breaks_rule_2.ensures c.if-breaks_rule_2.false c.if-bit.true in record { unbroken = search free; v4_value = search rules; v6_value = search rules; ipv6d_value = one.0; ip6pl_value = one.1 }
 
 pub read_fields-requires-2 : goal.read_fields-requires-2
 read_fields-requires-2 c =
-    let one = then_second (get_or c.args.payload.now 0 0) c.bit.ensures c.requires.payload_value_2 c.if-bit.false in record { in_bounds = search rules; payload_len_bound = search rules; payload_value = search free; v4_value = search rules; v6_value = search rules; ipv6d_value = one.0; ip6pl_value = one.1 }
+    let one = then_second (get_or c.args.payload.bytes.now 0 0) c.bit.ensures c.requires.prefixed c.if-bit.false in record { unbroken = search free; v4_value = search rules; v6_value = search rules; ipv6d_value = one.0; ip6pl_value = one.1 }
