@@ -1,6 +1,4 @@
 -- `f_teid::Fteid::unmarshal` meets its contract: the tests that lead to each return.
-use borrow.Author.Rules.{rules}
-use Rattle.octets.proofs.Laws.{flag_is}
 use Rattle.f_teid.proofs.Returns.{too_long, no_flags, forbidden}
 use Rattle.f_teid.proofs.Fteid.unmarshal.Goals as goal
 
@@ -10,11 +8,5 @@ returns-then-n-gt65535 c = search too_long
 pub returns-then-n-lt-MIN_LEN : goal.returns-then-n-lt-MIN_LEN
 returns-then-n-lt-MIN_LEN c = search no_flags
 
-pub read_chosen-requires : goal.read_chosen-requires
-read_chosen-requires c = record { payload_nonzero = search rules; payload_len_bound = search rules; payload_value = search flag_is }
-
 pub returns-then-bit-2 : goal.returns-then-bit-2
 returns-then-bit-2 c = search forbidden
-
-pub read_concrete-requires : goal.read_concrete-requires
-read_concrete-requires c = record { payload_nonzero = search rules; payload_len_bound = search rules; payload_value = search flag_is; payload_value_2 = search flag_is }
