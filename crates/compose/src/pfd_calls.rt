@@ -3,9 +3,10 @@
 use crate::numbers::Given;
 use crate::seen::Values;
 use crate::{calls, fixed, keys, seen};
-use answer::Answer;
-use pfd_contents::{PfdContents, PfdContentsAdded, PfdContentsBuilder, PfdContentsBuilt};
-use text_fields::{MaybeText, TextList};
+use answer::{Answer, Built};
+use pfd_contents::{PfdContents, PfdContentsAdded, PfdContentsBuilder};
+use text_fields::TextList;
+use texts::Text;
 
 // A builder after some calls, the answer of the last, and the record whose fields are as the keys have them.
 #[derive(Clone, Copy)]
@@ -15,13 +16,13 @@ struct Calls {
     record: PfdContents,
 }
 
-fn with_text(mut record: PfdContents, key: usize, text: MaybeText) -> PfdContents {
+fn with_text(mut record: PfdContents, key: usize, text: Text) -> PfdContents {
     match key {
-        0 => record.flow_description = text,
-        1 => record.url = text,
-        2 => record.domain_name = text,
-        3 => record.custom_pfd_content = text,
-        _ => record.domain_name_protocol = text,
+        0 => record.flow_description = Some(text),
+        1 => record.url = Some(text),
+        2 => record.domain_name = Some(text),
+        3 => record.custom_pfd_content = Some(text),
+        _ => record.domain_name_protocol = Some(text),
     }
     record
 }
@@ -65,8 +66,7 @@ fn called(calls: Calls, key: usize, given: Given, texts: &[u8]) -> Calls {
     let builder = calls.builder;
     let record = calls.record;
     if key < keys::LISTS {
-        let text = MaybeText {
-            given: true,
+        let text = Text {
             place: given.place,
             len: given.len,
         };
@@ -153,12 +153,17 @@ pub(crate) fn to_starts(values: &mut Values) -> usize {
     sum
 }
 
+// The text that a constructor is given, which is empty where the line has none.
+fn or_empty(text: Option<Text>) -> Text {
+    text.unwrap_or(Text { place: 0, len: 0 })
+}
+
 // The record of a constructor.
-fn constructed(record: PfdContents, call: usize, texts: &[u8]) -> PfdContentsBuilt {
-    let flow = record.flow_description;
-    let url = record.url;
-    let domain = record.domain_name;
-    let protocol = record.domain_name_protocol;
+fn constructed(record: PfdContents, call: usize, texts: &[u8]) -> Built<PfdContents> {
+    let flow = or_empty(record.flow_description);
+    let url = or_empty(record.url);
+    let domain = or_empty(record.domain_name);
+    let protocol = or_empty(record.domain_name_protocol);
     match call {
         37 => PfdContents::flow_description(texts, flow.place, flow.len),
         38 => PfdContents::url(texts, url.place, url.len),
@@ -174,16 +179,16 @@ fn constructed(record: PfdContents, call: usize, texts: &[u8]) -> PfdContentsBui
     }
 }
 
-fn made(calls: Calls, call: usize, flags: usize, texts: &[u8]) -> PfdContentsBuilt {
+fn made(calls: Calls, call: usize, flags: usize, texts: &[u8]) -> Built<PfdContents> {
     let answer = calls.answer;
     let builder = calls.builder;
     let mut record = calls.record;
     if answer.number() != 0 {
-        return PfdContentsBuilt { answer, record };
+        return Built { answer, record };
     }
     record.flags = fixed::to_u8(flags);
     match call {
-        calls::P | calls::P_RAW => PfdContentsBuilt { answer, record },
+        calls::P | calls::P_RAW => Built { answer, record },
         calls::P_BUILD | calls::P_RAW_BUILD => builder.build(texts),
         _ => constructed(record, call, texts),
     }
@@ -197,7 +202,7 @@ pub(crate) fn built(
     texts: &mut [u8],
     len: usize,
     starts: &mut Values,
-) -> PfdContentsBuilt {
+) -> Built<PfdContents> {
     let calls = all_calls(line, calls::has_places(call), texts, len, starts);
     made(calls, call, flags, texts::part(texts, 0, len))
 }

@@ -1,14 +1,14 @@
 // PFD Contents: the rows of its record lines.
 use crate::seen::{Seen, Values};
 use crate::{calls, fields, keys, pfd_calls, written};
-use answer::Answer;
+use answer::{Answer, Built};
 use details::refusals;
-use pfd_contents::PfdContentsBuilt;
+use pfd_contents::PfdContents;
 
 fn put_built(
     out: &mut [u8],
     at: usize,
-    built: PfdContentsBuilt,
+    built: Built<PfdContents>,
     texts: &[u8],
     room: usize,
     is_raw: bool,

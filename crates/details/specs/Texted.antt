@@ -4,7 +4,8 @@ use Rattle.octets.specs.Octets.{pick, big_endian}
 use Rattle.rows.specs.Values.{absent, nothing, signed_value, hex_value, ipv6_value, text_value, list_value}
 use Rattle.node_id.specs.declared.NodeId.{NodeId}
 use Rattle.node_id.specs.declared.NodeId.TheVariants.{Ipv4, Ipv6, Fqdn}
-use Rattle.text_fields.specs.declared.MaybeText.{MaybeText}
+use Rattle.std.specs.Prelude.{Option, Some, None}
+use Rattle.texts.specs.declared.Text.{Text}
 use Rattle.text_fields.specs.declared.TextList.{TextList}
 use Rattle.pfd_contents.specs.declared.PfdContents.{PfdContents}
 
@@ -32,11 +33,13 @@ behind_sign shown sign n = pick shown (signed_value sign n) nothing
 abbrev pub node_id_values : NodeId → Bool → List (List ℕ)
 node_id_values n places = node_id_field n ∷ behind_sign places 0x40 (name_place n) ∷ []
 
-abbrev pub text_of : MaybeText → List ℕ
-text_of x = pick x.given (text_value x.place x.len) absent
+abbrev pub text_of : Option Text → List ℕ
+text_of None = absent
+text_of (Some t) = text_value t.place t.len
 
-abbrev pub place_of : MaybeText → Bool → List ℕ
-place_of x places = behind_sign (places && x.given) 0x40 x.place
+abbrev pub place_of : Option Text → Bool → List ℕ
+place_of None places = nothing
+place_of (Some t) places = behind_sign places 0x40 t.place
 
 abbrev pub list_of : TextList → List ℕ
 list_of x = list_value x.place x.count

@@ -7,7 +7,8 @@ use node_id::NodeId;
 use octets::{MaybeIpv4, MaybeIpv6, both};
 use pfd_contents::PfdContents;
 use rows::Value;
-use text_fields::{MaybeText, TextList};
+use text_fields::TextList;
+use texts::Text;
 
 // The rows of a Node ID, by the number of its type.
 pub const NODE_ID: [u8; 61] = *b"rec=N type=0 ipv4=#\nrec=N type=1 ipv6=#\nrec=N type=2 name=##\n";
@@ -56,16 +57,22 @@ pub fn node_id(record: NodeId, places: bool) -> [Value; 2]
     ]
 }
 
-fn text(x: MaybeText) -> Value
+fn text(x: Option<Text>) -> Value
     ensures { result ≡ text_of x }
 {
-    rows::text(x.given, x.place, x.len)
+    match x {
+        Some(text) => rows::text(true, text.place, text.len),
+        None => rows::text(false, 0, 0),
+    }
 }
 
-fn place(x: MaybeText, places: bool) -> Value
+fn place(x: Option<Text>, places: bool) -> Value
     ensures { result ≡ place_of x places }
 {
-    rows::signed(both(places, x.given), b'@', x.place)
+    match x {
+        Some(text) => rows::signed(places, b'@', text.place),
+        None => rows::signed(false, b'@', 0),
+    }
 }
 
 fn list(x: TextList) -> Value

@@ -2,9 +2,9 @@
 #![tactic(auto)]
 
 ghost use Rattle.std.specs.Prelude.{◌≡◌, true, false, ◌≤◌, ◌<◌, length, get_or};
-ghost use Rattle.octets.specs.Octets.{pick, bit, put};
+ghost use Rattle.octets.specs.Octets.{bit, put};
 ghost use Rattle.answer.specs.Paper.{written};
-ghost use Rattle.f_teid.specs.Fteid.{meaning, wire, max_len, read, refused, empty, no_teid, made, made_with_choose, of_choice};
+ghost use Rattle.f_teid.specs.Fteid.{meaning, wire, max_len, read, refused, empty, made, made_with_choose, of_choice};
 ghost use Rattle.f_teid.specs.Builder.{fresh, with_teid, with_addresses, with_choices, with_choose_id, broken, built};
 
 use answer::{Answer, Built, Read, Written};
@@ -19,6 +19,7 @@ pub struct Fteid {
     pub teid: Teid,
     pub ipv4_address: Option<[u8; 4]>,
     pub ipv6_address: Option<[u8; 16]>,
+    // No `Option`: it is a byte of the record as in rs-pfcp, and counts only with CHID, which is a flag of its own.
     pub choose_id: u8,
 }
 
@@ -89,6 +90,8 @@ fn read_chosen(payload: &[u8]) -> Read<Fteid>
 }
 
 // Reads a payload without CH and CHID: the TEID, and the addresses under their flags.
+// F-SEID's addresses are read alike. One function for both would be no plainer: for two tests and two calls it would take a place and
+// both flags, and hand back both addresses with their end, or a refusal.
 fn read_concrete(payload: &[u8]) -> Read<Fteid>
     requires payload_nonzero { 0 < length payload.now }
     requires payload_len_bound { length payload.now ≤ 65535 }

@@ -5,14 +5,14 @@ use mathlib.Core.Path.{◌≡◌, refl, sym, ap, ◌∙◌}
 use mathlib.Core.Bool.{Bool, true, false}
 use mathlib.Core.List.{List}
 use lib.ListN.{length, get_or}
-use Rattle.std.specs.Prelude.{Option, Some, None}
+use Rattle.std.specs.Prelude.{Option, Some}
 use Rattle.answer.specs.declared.Answer.TheVariants.{Done, Short, Flags, InputTooLong}
 use Rattle.answer.specs.declared.Read.{Read}
 use Rattle.octets.specs.Octets.{pick, bit, if_set, field, address_of, number_of}
 use Rattle.kind.proofs.Cases.{stop_long, stop_head, stop_rule, stop_field, all_there, width_if_set_law}
 use Rattle.ue_ip_address.specs.declared.UeIpAddress.{UeIpAddress}
 use Rattle.ue_ip_address.specs.UeIpAddress.{broken_rule, rule_of, layout, read, found, refused, record_of}
-use Rattle.ue_ip_address.proofs.Rules.{keeps2, rule_given, rule_free}
+use Rattle.ue_ip_address.proofs.Rules.{keeps2, rule_given}
 
 module _ (s : List ℕ) (r : Read UeIpAddress) where
   pub too_long : 65535 < length s → r ≡ refused (InputTooLong (length s)) → r ≡ read s
@@ -22,10 +22,6 @@ module _ (s : List ℕ) (r : Read UeIpAddress) where
   pub no_head : length s < 1 → r ≡ refused (Short 0 1 (length s)) → r ≡ read s
   unfolding read found
   no_head h q = stop_head found layout s r (omega arith) h q
-
--- no rule is broken
-pub free_of : (b : ℕ) {o : Option ℕ} → o ≡ rule_of (broken_rule b) → o ≡ None → broken_rule b ≡ 0
-free_of b e h = rule_free _ e h
 
 -- a payload that has its flags
 module _ (s : List ℕ) (f : length s ≤ 65535) (a : 1 ≤ length s) where

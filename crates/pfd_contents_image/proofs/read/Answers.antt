@@ -1,5 +1,6 @@
 -- `pfd_contents_image::read` meets its contract: by the room and the payload's length, then by the fields.
 use borrow.Author.Rules.{rules}
+use native.Mathlib.Omega.{arith}
 use mathlib.Core.Path.{ap, ◌∙◌}
 use Rattle.pfd_contents.specs.PfdContents.{refused, read}
 use Rattle.pfd_contents.proofs.Returns.{too_long, too_short, enough}

@@ -9,8 +9,8 @@ use Rattle.octets.specs.Octets.{bit}
 use Rattle.ue_ip_address.specs.UeIpAddress.{breaks_rule1, broken_rule}
 use Rattle.ue_ip_address.proofs.Rules.{neither, rule1}
 use Rattle.ue_ip_address.proofs.Returns.{too_long, no_head, forbidden}
-use Rattle.image.proofs.Laws.{read_short, read_long}
-use Rattle.ue_ip_address_image.proofs.Reading.{refusal}
+use Rattle.image.proofs.Laws.{read_short}
+use Rattle.ue_ip_address_image.proofs.Reading.{refusal, long_enough}
 use Rattle.ue_ip_address_image.proofs.read.Goals as goal
 
 -- whether one of IPv6D and IP6PL is set
@@ -29,14 +29,14 @@ pub returns-then-image-lt-SIZE : goal.returns-then-image-lt-SIZE
 returns-then-image-lt-SIZE c = let all = read_short _ _ _ c.if-image-lt-SIZE.true in record { value = all.0; image_after = all.1 }
 
 pub returns-then-n-lt-MIN_LEN : goal.returns-then-n-lt-MIN_LEN
-returns-then-n-lt-MIN_LEN c = let all = read_long _ _ _ (search rules) (refusal _ _ _ (c.put_short.ensures.value, c.put_short.ensures.out_after) (search no_head)) in record { value = all.0; image_after = all.1 }
+returns-then-n-lt-MIN_LEN c = long_enough _ _ (search rules) (refusal _ _ _ c.put_short.ensures (search no_head))
 
 pub returns-then-n-gt65535 : goal.returns-then-n-gt65535
-returns-then-n-gt65535 c = let all = read_long _ _ _ (search rules) (refusal _ _ _ (c.put_refused.ensures.value, c.put_refused.ensures.out_after) (search too_long)) in record { value = all.0; image_after = all.1 }
+returns-then-n-gt65535 c = long_enough _ _ (search rules) (refusal _ _ _ c.put_refused.ensures (search too_long))
 
 pub returns-then-breaks_rule_1 : goal.returns-then-breaks_rule_1
-returns-then-breaks_rule_1 c = let all = read_long _ _ _ (search rules) (refusal _ _ _ (c.put_flags.ensures.value, c.put_flags.ensures.out_after)
-    (forbidden _ (search rules) (search rules) _ _ (rule1 _ c.breaks_rule_1.ensures c.if-breaks_rule_1.true) (λ z. omega arith) refl)) in record { value = all.0; image_after = all.1 }
+returns-then-breaks_rule_1 c = long_enough _ _ (search rules) (refusal _ _ _ c.put_flags.ensures
+    (forbidden _ (search rules) (search rules) _ _ (rule1 _ c.breaks_rule_1.ensures c.if-breaks_rule_1.true) (λ z. omega arith) refl))
 
 pub read_prefixed-requires : goal.read_prefixed-requires
 read_prefixed-requires c =
@@ -45,7 +45,7 @@ read_prefixed-requires c =
     record { keeps_rule1 = search kept; prefixed = set }
 
 pub returns-then-either : goal.returns-then-either
-returns-then-either c = let all = read_long _ _ _ (search rules) (c.read_prefixed.ensures.value, c.read_prefixed.ensures.image_after) in record { value = all.0; image_after = all.1 }
+returns-then-either c = long_enough _ _ (search rules) c.read_prefixed.ensures
 
 pub read_addresses-requires : goal.read_addresses-requires
 read_addresses-requires c =
@@ -54,4 +54,4 @@ read_addresses-requires c =
     record { unbroken = all.0; ipv6d_unset = all.1.0; ip6pl_unset = all.1.1 }
 
 pub returns : goal.returns
-returns c = let all = read_long _ _ _ (search rules) (c.read_addresses.ensures.value, c.read_addresses.ensures.image_after) in record { value = all.0; image_after = all.1 }
+returns c = long_enough _ _ (search rules) c.read_addresses.ensures

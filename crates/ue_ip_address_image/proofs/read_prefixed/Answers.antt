@@ -25,13 +25,13 @@ module _ (b : ℕ) {x : Bool} (e : x ≡ bit 3 b) where
 
 pub returns-then-breaks_rule_2 : goal.returns-then-breaks_rule_2
 returns-then-breaks_rule_2 c =
-    let all = refusal _ _ _ (c.put_flags.ensures.value, c.put_flags.ensures.out_after)
-    (forbidden _ c.args.payload.len_bound c.args.payload.in_bounds _ _ (rule2 _ refl c.requires.keeps_rule1 c.breaks_rule_2.ensures c.if-breaks_rule_2.true) (λ z. omega arith) refl) in record { value = all.0; image_after = all.1 }
+    refusal _ _ _ c.put_flags.ensures
+    (forbidden _ c.args.payload.len_bound c.args.payload.in_bounds _ _ (rule2 _ refl c.requires.keeps_rule1 c.breaks_rule_2.ensures c.if-breaks_rule_2.true) (λ z. omega arith) refl)
 
 pub returns-then-breaks_rule_3 : goal.returns-then-breaks_rule_3
 returns-then-breaks_rule_3 c =
-    let all = refusal _ _ _ (c.put_flags-then-breaks_rule_3.ensures.value, c.put_flags-then-breaks_rule_3.ensures.out_after)
-    (forbidden _ c.args.payload.len_bound c.args.payload.in_bounds _ _ (rule3 _ refl c.requires.keeps_rule1 c.breaks_rule_2.ensures c.if-breaks_rule_2.false c.breaks_rule_3.ensures c.if-breaks_rule_3.true) (λ z. omega arith) refl) in record { value = all.0; image_after = all.1 }
+    refusal _ _ _ c.put_flags-then-breaks_rule_3.ensures
+    (forbidden _ c.args.payload.len_bound c.args.payload.in_bounds _ _ (rule3 _ refl c.requires.keeps_rule1 c.breaks_rule_2.ensures c.if-breaks_rule_2.false c.breaks_rule_3.ensures c.if-breaks_rule_3.true) (λ z. omega arith) refl)
 
 pub read_fields-requires : goal.read_fields-requires
 read_fields-requires c =

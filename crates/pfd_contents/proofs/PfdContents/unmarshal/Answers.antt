@@ -1,4 +1,5 @@
 -- `pfd_contents::PfdContents::unmarshal` meets its contract: by the length, then by the fields.
+use native.Mathlib.Omega.{arith}
 use mathlib.Core.Path.{ap, ◌∙◌}
 use Rattle.pfd_contents.specs.PfdContents.{refused}
 use Rattle.pfd_contents.proofs.Returns.{too_long, too_short, enough}
