@@ -1,7 +1,9 @@
 -- What the rows of records with texts show: every field, and behind a text or a run its place, behind a run its length, where these are asked for.
 use Rattle.std.specs.Prelude.{ℕ, Bool, not, ◌&&◌, List, [], ◌∷◌, eqb}
-use Rattle.octets.specs.Octets.{pick, big_endian}
-use Rattle.rows.specs.Values.{absent, nothing, signed_value, hex_value, ipv6_value, text_value, list_value}
+use Rattle.octets.specs.Octets.{pick}
+use Rattle.rows.specs.declared.Value.{Value}
+use Rattle.rows.specs.declared.Value.TheVariants.{Nothing, Signed, Listed}
+use Rattle.rows.specs.Values.{given, hex_value, ipv4_value, ipv6_value, text_value}
 use Rattle.node_id.specs.declared.NodeId.{NodeId}
 use Rattle.node_id.specs.declared.NodeId.TheVariants.{Ipv4, Ipv6, Fqdn}
 use Rattle.std.specs.Prelude.{Option, Some, None}
@@ -15,10 +17,10 @@ type_number (Ipv6 a) = 1
 type_number (Fqdn name) = 2
 
 -- the address or the name
-abbrev pub node_id_field : NodeId → List ℕ
-node_id_field (Ipv4 a) = hex_value 4 0 (big_endian a)
+abbrev pub node_id_field : NodeId → Value
+node_id_field (Ipv4 a) = ipv4_value a
 node_id_field (Ipv6 a) = ipv6_value a
-node_id_field (Fqdn name) = text_value name.place name.len
+node_id_field (Fqdn name) = text_value name
 
 -- the place of the name, 0 of an address
 abbrev pub name_place : NodeId → ℕ
@@ -27,41 +29,37 @@ name_place (Ipv6 a) = 0
 name_place (Fqdn name) = name.place
 
 -- a number behind a sign, where it is shown
-abbrev pub behind_sign : Bool → ℕ → ℕ → List ℕ
-behind_sign shown sign n = pick shown (signed_value sign n) nothing
+abbrev pub behind_sign : Bool → ℕ → ℕ → Value
+behind_sign shown sign n = pick shown (Signed sign n) Nothing
 
-abbrev pub node_id_values : NodeId → Bool → List (List ℕ)
+abbrev pub node_id_values : NodeId → Bool → List Value
 node_id_values n places = node_id_field n ∷ behind_sign places 0x40 (name_place n) ∷ []
 
-abbrev pub text_of : Option Text → List ℕ
-text_of None = absent
-text_of (Some t) = text_value t.place t.len
-
-abbrev pub place_of : Option Text → Bool → List ℕ
-place_of None places = nothing
+abbrev pub place_of : Option Text → Bool → Value
+place_of None places = Nothing
 place_of (Some t) places = behind_sign places 0x40 t.place
 
-abbrev pub list_of : TextList → List ℕ
-list_of x = list_value x.place x.count
+abbrev pub list_of : TextList → Value
+list_of x = Listed x.place x.count
 
-abbrev pub run_place_of : TextList → Bool → List ℕ
+abbrev pub run_place_of : TextList → Bool → Value
 run_place_of x places = behind_sign (places && not (eqb x.count 0)) 0x40 x.place
 
-abbrev pub run_len_of : TextList → Bool → List ℕ
+abbrev pub run_len_of : TextList → Bool → Value
 run_len_of x places = behind_sign (places && not (eqb x.count 0)) 0x2B x.len
 
-abbrev pub pfd_contents_values : PfdContents → Bool → List (List ℕ)
+abbrev pub pfd_contents_values : PfdContents → Bool → List Value
 pfd_contents_values p places =
-    hex_value 1 0 p.flags
-    ∷ text_of p.flow_description
+    hex_value 1 p.flags
+    ∷ given text_value p.flow_description
     ∷ place_of p.flow_description places
-    ∷ text_of p.url
+    ∷ given text_value p.url
     ∷ place_of p.url places
-    ∷ text_of p.domain_name
+    ∷ given text_value p.domain_name
     ∷ place_of p.domain_name places
-    ∷ text_of p.custom_pfd_content
+    ∷ given text_value p.custom_pfd_content
     ∷ place_of p.custom_pfd_content places
-    ∷ text_of p.domain_name_protocol
+    ∷ given text_value p.domain_name_protocol
     ∷ place_of p.domain_name_protocol places
     ∷ list_of p.additional_flow_description
     ∷ run_place_of p.additional_flow_description places

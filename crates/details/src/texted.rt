@@ -1,10 +1,10 @@
 // The fields of records with texts. These stand in a slice that goes with the record, and are shown with their places where these are
 // asked for.
 ghost use Rattle.std.specs.Prelude.{◌≡◌};
-ghost use Rattle.details.specs.Texted.{type_number, node_id_field, name_place, node_id_values, text_of, place_of, list_of, run_place_of, run_len_of, pfd_contents_values};
+ghost use Rattle.details.specs.Texted.{type_number, node_id_field, name_place, node_id_values, place_of, list_of, run_place_of, run_len_of, pfd_contents_values};
 
 use node_id::NodeId;
-use octets::{MaybeIpv4, MaybeIpv6, both};
+use octets::both;
 use pfd_contents::PfdContents;
 use rows::Value;
 use text_fields::TextList;
@@ -32,9 +32,9 @@ fn field_of(record: NodeId) -> Value
     ensures { result ≡ node_id_field «record» }
 {
     match record {
-        NodeId::Ipv4(address) => rows::ipv4(MaybeIpv4::new(address)),
-        NodeId::Ipv6(address) => rows::ipv6(MaybeIpv6::new(address)),
-        NodeId::Fqdn(name) => rows::text(true, name.place, name.len),
+        NodeId::Ipv4(address) => rows::ipv4(Some(address)),
+        NodeId::Ipv6(address) => rows::ipv6(Some(address)),
+        NodeId::Fqdn(name) => rows::text(Some(name)),
     }
 }
 
@@ -57,22 +57,13 @@ pub fn node_id(record: NodeId, places: bool) -> [Value; 2]
     ]
 }
 
-fn text(x: Option<Text>) -> Value
-    ensures { result ≡ text_of x }
-{
-    match x {
-        Some(text) => rows::text(true, text.place, text.len),
-        None => rows::text(false, 0, 0),
-    }
-}
-
 fn place(x: Option<Text>, places: bool) -> Value
     ensures { result ≡ place_of x places }
 {
-    match x {
-        Some(text) => rows::signed(places, b'@', text.place),
-        None => rows::signed(false, b'@', 0),
-    }
+    x.map_or(
+        Value::Nothing,
+        |text| rows::signed(places, b'@', text.place),
+    )
 }
 
 fn list(x: TextList) -> Value
@@ -97,16 +88,16 @@ pub fn pfd_contents(record: PfdContents, places: bool) -> [Value; 20]
     ensures { result ≡ pfd_contents_values «record» places }
 {
     [
-        rows::number8(true, record.flags),
-        text(record.flow_description),
+        rows::number(1, Some(record.flags as u64)),
+        rows::text(record.flow_description),
         place(record.flow_description, places),
-        text(record.url),
+        rows::text(record.url),
         place(record.url, places),
-        text(record.domain_name),
+        rows::text(record.domain_name),
         place(record.domain_name, places),
-        text(record.custom_pfd_content),
+        rows::text(record.custom_pfd_content),
         place(record.custom_pfd_content, places),
-        text(record.domain_name_protocol),
+        rows::text(record.domain_name_protocol),
         place(record.domain_name_protocol, places),
         list(record.additional_flow_description),
         run_place(record.additional_flow_description, places),

@@ -2,7 +2,8 @@
 use Rattle.std.specs.Prelude.{ℕ, suc, List, Option, Some, None, take, drop, ℤ, pos, negsuc}
 use Rattle.octets.specs.Octets.{big_endian}
 use Rattle.rows.specs.declared.Value.{Value}
-use Rattle.rows.specs.declared.Value.TheVariants.{Absent, Count, Signed, Hex}
+use Rattle.rows.specs.declared.Value.TheVariants.{Absent, Count, Signed, Hex, Quoted}
+use Rattle.texts.specs.declared.Text.{Text}
 
 -- a value that may be absent
 abbrev pub given : {A : Type 0} → (A → Value) → Option A → Value
@@ -23,3 +24,7 @@ ipv4_value octets = hex_value 4 (big_endian octets)
 
 abbrev pub ipv6_value : List ℕ → Value
 ipv6_value octets = Hex 16 (big_endian (take 8 octets)) (big_endian (take 8 (drop 8 octets)))
+
+-- a text of the slice, between quotes
+abbrev pub text_value : Text → Value
+text_value t = Quoted t.place t.len

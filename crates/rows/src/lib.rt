@@ -7,8 +7,8 @@ pub mod stream;
 ghost use Rattle.std.specs.Prelude.{◌≡◌, suc, ◌+◌, ◌≤◌, min, length, drop, get_or};
 ghost use Rattle.slices.specs.Slices.{index_of};
 ghost use Rattle.octets.specs.Octets.{pick, if_set};
-ghost use Rattle.rows.specs.Values.{given, integer_value, hex_value, ipv4_value, ipv6_value};
-ghost use Rattle.rows.specs.declared.Value.TheVariants.{Nothing, Count, Signed, Part, Quoted, Listed};
+ghost use Rattle.rows.specs.Values.{given, integer_value, hex_value, ipv4_value, ipv6_value, text_value};
+ghost use Rattle.rows.specs.declared.Value.TheVariants.{Nothing, Count, Signed, Part, Listed};
 ghost use Rattle.rows.specs.Row.{pieces, other, numbered, ends, puts};
 
 use texts::Text;
@@ -114,7 +114,7 @@ pub fn front(len: Option<usize>) -> Value
 
 // A text of that slice, where there is one.
 pub fn text(text: Option<Text>) -> Value
-    ensures { result ≡ given (λ t. Quoted t.place t.len) text }
+    ensures { result ≡ given text_value text }
 {
     text.map_or(
         Value::Absent,

@@ -1,6 +1,7 @@
 -- `pfd_contents::PfdContents::unmarshal` meets its contract: by the length, then by the fields.
 use native.Mathlib.Omega.{arith}
 use mathlib.Core.Path.{ap, ◌∙◌}
+use native.Mathlib.Omega.{arith}
 use Rattle.pfd_contents.specs.PfdContents.{refused}
 use Rattle.pfd_contents.proofs.Returns.{too_long, too_short, enough}
 use Rattle.pfd_contents.proofs.PfdContents.unmarshal.Goals as goal
