@@ -187,11 +187,9 @@ payload_pairs (x ∷ y ∷ text) d d' len h g l e q r =
 
 -- the row of a letter and a text, by its payload
 pub good_text : (letter : ℕ) (good : Bool) (text bs : List ℕ) → payload text ≡ pick good (Some bs) None → good ≡ true → option_and_then (row_for letter) (payload text) ≡ row_for letter bs
-unfolding option_and_then
 good_text letter good text bs e g = rw (e, g)
 
 pub bad_text : (letter : ℕ) (good : Bool) (text bs : List ℕ) → payload text ≡ pick good (Some bs) None → good ≡ false → option_and_then (row_for letter) (payload text) ≡ None
-unfolding option_and_then
 bad_text letter good text bs e g = rw (e, g)
 
 -- ---- the row of a line
@@ -207,7 +205,7 @@ no_space [] h = refl
 no_space (c ∷ []) h = refl
 no_space (c ∷ d ∷ line) h = rw (ne_eqb _ _ h)
 
-pub shaped : (line : List ℕ) → get_or line 1 0 ≡ 0x20 → line_row line ≡ option_and_then (payload (take (length line - 2) (drop 2 line))) (row_for (get_or line 0 0))
+pub shaped : (line : List ℕ) → get_or line 1 0 ≡ 0x20 → line_row line ≡ option_and_then (row_for (get_or line 0 0)) (payload (take (length line - 2) (drop 2 line)))
 unfolding line_row
 shaped [] h = absurd (omega arith)
 shaped (c ∷ []) h = absurd (omega arith)

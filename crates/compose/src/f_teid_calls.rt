@@ -2,7 +2,6 @@
 use crate::numbers::Given;
 use crate::{fixed, keys, seen};
 use f_teid::{Fteid, FteidBuilder, FteidBuilt};
-use words::part;
 
 fn called(b: FteidBuilder, key: usize, given: Given) -> FteidBuilder {
     let ipv4 = fixed::to_ipv4(given.place);
@@ -21,17 +20,17 @@ fn called(b: FteidBuilder, key: usize, given: Given) -> FteidBuilder {
 
 fn with_word(b: FteidBuilder, word: &[u8]) -> FteidBuilder {
     let key = keys::key_of(word);
-    called(b, key, seen::number(key, words::value(word)))
+    match seen::number(key, words::value(word)) {
+        Some(given) => called(b, key, given),
+        None => b,
+    }
 }
 
 // The builder after all calls, in the order of the line.
 fn builder_of(line: &[u8]) -> FteidBuilder {
     let mut b = Fteid::builder();
-    let mut end = slices::find(line, 0, line.len(), b' ');
-    while end < line.len() {
-        let at = end + 1;
-        end = slices::find(line, at, line.len(), b' ');
-        b = with_word(b, part(line, at, end));
+    for word in line.split(|b| *b == b' ').skip(1) {
+        b = with_word(b, word);
     }
     b
 }

@@ -16,7 +16,9 @@ pub(crate) fn put(out: &mut [u8], at: usize, line: &[u8], texts: &mut [u8]) -> u
     let call = calls::call_of(line);
     let mut values = [0usize; 32];
     values[keys::ROOM] = 65535;
-    let seen = seen::look(line, calls::has_places(call), texts, &mut values);
+    let Some(seen) = seen::look(line, calls::has_places(call), texts, &mut values) else {
+        return rows::put_other(out, at);
+    };
     if !calls::is_taken(call, seen, values[keys::FLAGS]) {
         return rows::put_other(out, at);
     }

@@ -4,11 +4,9 @@ use crate::numbers::Given;
 use crate::seen::Values;
 use crate::{calls, fixed, keys, seen};
 use answer::{Answer, Built};
-use lines::after;
 use pfd_contents::{PfdContents, PfdContentsAdded, PfdContentsBuilder};
 use text_fields::TextList;
 use texts::Text;
-use words::part;
 
 // A builder after some calls, the answer of the last, and the record whose fields are as the keys have them.
 #[derive(Clone, Copy)]
@@ -118,7 +116,9 @@ fn with_word(
         return calls;
     }
     let start = seen::start_of(starts, key);
-    let given = seen::given(key, words::value(word), has_places, texts, start);
+    let Some(given) = seen::given(key, words::value(word), has_places, texts, start) else {
+        return calls;
+    };
     seen::grow(starts, key, given.len);
     called(calls, key, given, texts::part(texts, 0, len))
 }
@@ -136,24 +136,19 @@ fn all_calls(
         builder: PfdContents::builder(),
         record: PfdContents::EMPTY,
     };
-    let mut end = slices::find(line, 0, line.len(), b' ');
-    while end < line.len() {
-        let at = end + 1;
-        end = slices::find(line, at, line.len(), b' ');
-        calls = with_word(calls, part(line, at, end), has_places, texts, len, starts);
+    for word in line.split(|b| *b == b' ').skip(1) {
+        calls = with_word(calls, word, has_places, texts, len, starts);
     }
     calls
 }
 
 // Turns the lengths of fields into starts, each behind the one before, and returns where the last ends.
 pub(crate) fn to_starts(values: &mut Values) -> usize {
-    let mut sum = 0;
-    let mut i = 0;
-    while i < keys::ENTRIES {
-        let len = values[i];
-        values[i] = sum;
-        sum = after(sum, len);
-        i += 1;
+    let mut sum: usize = 0;
+    for start in values[..keys::ENTRIES].iter_mut() {
+        let len = *start;
+        *start = sum;
+        sum = sum.saturating_add(len);
     }
     sum
 }

@@ -1,9 +1,7 @@
 // What the words of a line give.
 use crate::numbers::Given;
 use crate::{keys, numbers, store};
-use lines::{after, left};
 use octets::{both, either};
-use words::part;
 
 // A number for each key: how many bytes the texts of a field take, or what the key gives. Behind these stand the last eight bytes
 // of an IPv6 address, and the place of a name.
@@ -13,10 +11,9 @@ pub(crate) const V6_LOW: usize = 30;
 
 pub(crate) const NAME_PLACE: usize = 31;
 
-// Whether all words of a line are good, the bits of the keys that it has, and of those that it has again.
+// The bits of the keys that a line has, and of those that it has again.
 #[derive(Clone, Copy)]
 pub(crate) struct Seen {
-    pub is_good: bool,
     pub keys: u32,
     pub again: u32,
     pub stag_first: bool,
@@ -31,7 +28,6 @@ fn bit_of(key: usize) -> u32 {
 
 impl Seen {
     const NOTHING: Seen = Seen {
-        is_good: true,
         keys: 0,
         again: 0,
         stag_first: false,
@@ -41,10 +37,9 @@ impl Seen {
         self.keys & bit_of(key) != 0
     }
 
-    fn with(self, key: usize, is_good: bool) -> Seen {
+    fn with(self, key: usize) -> Seen {
         let bit = bit_of(key);
         Seen {
-            is_good: both(self.is_good, is_good),
             keys: self.keys | bit,
             again: self.again | (self.keys & bit),
             stag_first: either(
@@ -60,11 +55,11 @@ fn field_of(key: usize) -> usize {
     if key < keys::ENTRIES {
         return key;
     }
-    left(key, 3)
+    key.saturating_sub(3)
 }
 
 // Texts with the line, stored at a place.
-fn stored(key: usize, value: &[u8], texts: &mut [u8], at: usize) -> Given {
+fn stored(key: usize, value: &[u8], texts: &mut [u8], at: usize) -> Option<Given> {
     if key < keys::LISTS {
         return store::entry(texts, at, value, 0);
     }
@@ -75,7 +70,7 @@ fn stored(key: usize, value: &[u8], texts: &mut [u8], at: usize) -> Given {
 }
 
 // Texts by their places in a slice.
-fn placed(key: usize, value: &[u8]) -> Given {
+fn placed(key: usize, value: &[u8]) -> Option<Given> {
     if key < keys::LISTS {
         return numbers::span(value);
     }
@@ -86,7 +81,7 @@ fn placed(key: usize, value: &[u8]) -> Given {
 }
 
 // The number of a key that has no text.
-pub(crate) fn number(key: usize, value: &[u8]) -> Given {
+pub(crate) fn number(key: usize, value: &[u8]) -> Option<Given> {
     match key {
         keys::ROOM => numbers::decimal(value, 65535),
         keys::DUAL => numbers::two_addresses(value),
@@ -101,7 +96,7 @@ pub(crate) fn given(
     has_places: bool,
     texts: &mut [u8],
     at: usize,
-) -> Given {
+) -> Option<Given> {
     if key == keys::SLICE {
         return store::slice(texts, value);
     }
@@ -128,8 +123,7 @@ pub(crate) fn grow(values: &mut Values, key: usize, n: usize) {
     if 31 < field {
         return;
     }
-    let len = values[field];
-    values[field] = after(len, n);
+    values[field] = values[field].saturating_add(n);
 }
 
 fn note(values: &mut Values, key: usize, given: Given) {
@@ -147,27 +141,19 @@ fn note(values: &mut Values, key: usize, given: Given) {
     }
 }
 
-fn with_word(
-    seen: Seen,
-    word: &[u8],
+// Sees all words behind a line's first, where each of them is good.
+pub(crate) fn look(
+    line: &[u8],
     has_places: bool,
     texts: &mut [u8],
     values: &mut Values,
-) -> Seen {
-    let key = keys::key_of(word);
-    let given = given(key, words::value(word), has_places, texts, 0);
-    note(values, key, given);
-    seen.with(key, given.is_good)
-}
-
-// Sees all words behind a line's first.
-pub(crate) fn look(line: &[u8], has_places: bool, texts: &mut [u8], values: &mut Values) -> Seen {
+) -> Option<Seen> {
     let mut seen = Seen::NOTHING;
-    let mut end = slices::find(line, 0, line.len(), b' ');
-    while end < line.len() {
-        let at = end + 1;
-        end = slices::find(line, at, line.len(), b' ');
-        seen = with_word(seen, part(line, at, end), has_places, texts, values);
+    for word in line.split(|b| *b == b' ').skip(1) {
+        let key = keys::key_of(word);
+        let given = given(key, words::value(word), has_places, texts, 0)?;
+        note(values, key, given);
+        seen = seen.with(key);
     }
-    seen
+    Some(seen)
 }

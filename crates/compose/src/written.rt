@@ -3,7 +3,6 @@ ghost use Rattle.std.specs.Prelude.{◌≡◌, length};
 
 use crate::fields;
 use answer::Written;
-use lines::least;
 use node_id::NodeId;
 use octets::both;
 use pfd_contents::PfdContents;
@@ -69,7 +68,7 @@ pub(crate) fn put_node_id(
     is_brief: bool,
 ) -> usize {
     let mut wire = buffer();
-    let room = least(room, 65535);
+    let room = room.min(65535);
     let written = record.marshal(texts, &mut wire[0..room]);
     let begun = put(out, at, written, &wire, is_raw, is_brief);
     if !begun.has_fields {
@@ -88,7 +87,7 @@ pub(crate) fn put_pfd_contents(
     is_brief: bool,
 ) -> usize {
     let mut wire = buffer();
-    let room = least(room, 65535);
+    let room = room.min(65535);
     let written = record.marshal(texts, &mut wire[0..room]);
     let begun = put(out, at, written, &wire, is_raw, is_brief);
     if !begun.has_fields {

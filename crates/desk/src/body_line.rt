@@ -1,9 +1,6 @@
 // All IEs of a message body: words that set the table's length and the list of types, and the body in hex.
 use crate::fields::Fields;
 use ie::{Ie, IesRead, Row};
-use lines::least;
-use octets::both;
-use words::{Filled, Parsed};
 
 const KEYS: [u8; 11] = *b"rows= zero=";
 
@@ -42,91 +39,57 @@ impl Asked {
         body: 0,
     };
 
-    fn with_rows(mut self, number: Parsed) -> Asked {
-        self.fields = self.fields.with(ROWS, is_small(number));
-        self.room = (number.value % 65536) as usize;
-        self
+    fn with_rows(mut self, text: &[u8]) -> Option<Asked> {
+        self.fields = self.fields.with(ROWS)?;
+        self.room = small(text)? as usize;
+        Some(self)
     }
 
-    fn with_types(mut self, types: Filled) -> Asked {
-        self.fields = self.fields.with(ZERO, types.is_good);
-        self.types = types.len;
-        self
+    fn with_types(mut self, text: &[u8], types: &mut [u16]) -> Option<Asked> {
+        self.fields = self.fields.with(ZERO)?;
+        self.types = fill(types, text)?;
+        Some(self)
     }
 
-    fn with_other(mut self) -> Asked {
-        self.fields = self.fields.with(ROWS, false);
-        self
-    }
-
-    fn with_word(self, word: &[u8], types: &mut [u16]) -> Asked {
+    fn with_word(self, word: &[u8], types: &mut [u16]) -> Option<Asked> {
+        let value = words::value(word);
         match words::index(&KEYS, words::key(word)) {
-            ROWS => self.with_rows(words::decimal(words::value(word))),
-            ZERO => self.with_types(fill(types, words::value(word))),
-            _ => self.with_other(),
+            ROWS => self.with_rows(value),
+            ZERO => self.with_types(value, types),
+            _ => None,
         }
     }
 }
 
-// Whether a number has 16 bits.
-fn is_small(number: Parsed) -> bool {
-    both(number.is_good, number.value <= 65535)
+// A number of 16 bits.
+fn small(text: &[u8]) -> Option<u16> {
+    u16::try_from(words::decimal(text)?).ok()
 }
 
-// So many types that were listed, and a list that is none.
-fn listed(count: usize) -> Filled {
-    Filled {
-        is_good: true,
-        len: count,
-    }
-}
-
-const UNLISTED: Filled = Filled {
-    is_good: false,
-    len: 0,
-};
-
-// Puts the numbers of a list, commas between them, into memory.
-fn fill(types: &mut [u16], text: &[u8]) -> Filled {
-    if text.len() == 0 {
-        return listed(0);
+// Puts the numbers of a list, commas between them, into memory, and says how many they are.
+fn fill(types: &mut [u16], text: &[u8]) -> Option<usize> {
+    if text.is_empty() {
+        return Some(0);
     }
     let mut count = 0;
-    let mut at = 0;
-    loop {
-        let end = slices::find(text, at, text.len(), b',');
-        let number = words::decimal(words::part(text, at, end));
-        if !both(is_small(number), count < types.len()) {
-            return UNLISTED;
-        }
-        put_type(types, count, number);
-        count += 1;
-        if end == text.len() {
-            return listed(count);
-        }
-        at = end + 1;
+    for (i, number) in text.split(|b| *b == b',').enumerate() {
+        *types.get_mut(i)? = small(number)?;
+        count = i.saturating_add(1);
     }
+    Some(count)
 }
 
-fn put_type(types: &mut [u16], at: usize, number: Parsed) {
-    if at < types.len() {
-        types[at] = (number.value % 65536) as u16;
-    }
-}
-
-// Looks at the words before a body. They end with a space each.
-fn look(text: &[u8], types: &mut [u16]) -> Asked {
+// Looks at the words before a body, where each of them is good. They end with a space each.
+fn look(text: &[u8], types: &mut [u16]) -> Option<Asked> {
     let mut asked = Asked::START;
-    let mut at = 0;
-    loop {
-        let end = slices::find(text, at, text.len(), b' ');
-        if end == text.len() {
-            asked.body = at;
-            return asked;
-        }
-        asked = asked.with_word(words::part(text, at, end), types);
-        at = end + 1;
+    let Some(last) = text.iter().rposition(|b| *b == b' ') else {
+        return Some(asked);
+    };
+    for word in text[..last].split(|b| *b == b' ') {
+        asked = asked.with_word(word, types)?;
     }
+    asked.body = last + 1;
+    Some(asked)
 }
 
 pub(crate) fn put(
@@ -137,13 +100,14 @@ pub(crate) fn put(
     table: &mut [Row],
 ) -> usize {
     let mut types = [0u16; 256];
-    let asked = look(text, &mut types);
-    let filled = words::payload(words::part(text, asked.body, text.len()), payload);
-    if !both(asked.fields.is_good, filled.is_good) {
+    let Some(asked) = look(text, &mut types) else {
         return rows::put_other(out, at);
-    }
-    let body = texts::part(payload, 0, filled.len);
-    let room = least(asked.room, table.len());
+    };
+    let Some(len) = words::payload(words::part(text, asked.body, text.len()), payload) else {
+        return rows::put_other(out, at);
+    };
+    let body = texts::part(payload, 0, len);
+    let room = asked.room.min(table.len());
     let read = read(asked, body, &types, &mut table[0..room]);
     put_read(out, at, read, table)
 }
@@ -151,7 +115,7 @@ pub(crate) fn put(
 // With the list of the line where it has one, else with the published Rust's.
 fn read(asked: Asked, body: &[u8], types: &[u16], table: &mut [Row]) -> IesRead {
     if asked.fields.has(ZERO) {
-        return Ie::unmarshal_all(body, &types[0..least(asked.types, types.len())], table);
+        return Ie::unmarshal_all(body, &types[..asked.types.min(types.len())], table);
     }
     Ie::unmarshal_body(body, table)
 }
@@ -163,7 +127,7 @@ fn put_read(out: &mut [u8], at: usize, read: IesRead, table: &[Row]) -> usize {
     }
     let values = [rows::count(read.rows)];
     let end = rows::put(out, at, b"0 #", &values, b"");
-    let end = put_rows(out, end, &table[0..least(read.rows, table.len())]);
+    let end = put_rows(out, end, &table[..read.rows.min(table.len())]);
     rows::put(out, end, b"\n", &values, b"")
 }
 
@@ -182,10 +146,8 @@ fn put_refused(out: &mut [u8], at: usize, read: IesRead) -> usize {
 
 fn put_rows(out: &mut [u8], at: usize, table: &[Row]) -> usize {
     let mut end = at;
-    let mut i = 0;
-    while i < table.len() {
-        end = put_row(out, end, table[i]);
-        i += 1;
+    for row in table {
+        end = put_row(out, end, *row);
     }
     end
 }

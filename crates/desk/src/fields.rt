@@ -1,7 +1,4 @@
 // The fields that the words of a line give: each a key alone, or a key and a number.
-use octets::both;
-use words::Parsed;
-
 // How the number of a key is written: in so many bytes of hex; not at all, for a key alone; or in decimal.
 pub(crate) const ALONE: u8 = 0;
 
@@ -13,10 +10,9 @@ const UNKNOWN: u8 = 254;
 // The numbers of a line's keys, each at the place of its key in the list of all.
 pub(crate) type Values = [u64; 16];
 
-// Whether the words of a line are good, and the bits of the keys that it has.
+// The bits of the keys that a line has.
 #[derive(Clone, Copy)]
 pub(crate) struct Fields {
-    pub is_good: bool,
     keys: u32,
 }
 
@@ -28,37 +24,30 @@ fn bit_of(key: usize) -> u32 {
 }
 
 impl Fields {
-    pub(crate) const NONE: Fields = Fields {
-        is_good: true,
-        keys: 0,
-    };
+    pub(crate) const NONE: Fields = Fields { keys: 0 };
 
     pub(crate) fn has(self, key: usize) -> bool {
         self.keys & bit_of(key) != 0
     }
 
     // A line has a key once at most.
-    pub(crate) fn with(self, key: usize, is_good: bool) -> Fields {
-        Fields {
-            is_good: both(self.is_good, both(is_good, !self.has(key))),
-            keys: self.keys | bit_of(key),
+    pub(crate) fn with(self, key: usize) -> Option<Fields> {
+        if self.has(key) {
+            return None;
         }
+        Some(Fields {
+            keys: self.keys | bit_of(key),
+        })
     }
 }
 
 fn form_of(forms: &[u8], key: usize) -> u8 {
-    if forms.len() <= key {
-        return UNKNOWN;
-    }
-    forms[key]
+    forms.get(key).copied().unwrap_or(UNKNOWN)
 }
 
-fn number(text: &[u8], form: u8) -> Parsed {
+fn number(text: &[u8], form: u8) -> Option<u64> {
     match form {
-        ALONE => Parsed {
-            is_good: true,
-            value: 0,
-        },
+        ALONE => Some(0),
         DECIMAL => words::decimal(text),
         _ => words::hexadecimal(text, form as usize),
     }
@@ -70,29 +59,14 @@ fn note(values: &mut Values, key: usize, x: u64) {
     }
 }
 
-fn with_word(
-    fields: Fields,
-    word: &[u8],
-    keys: &[u8],
-    forms: &[u8],
-    values: &mut Values,
-) -> Fields {
-    let key = words::index(keys, words::key(word));
-    let given = number(words::value(word), form_of(forms, key));
-    note(values, key, given.value);
-    fields.with(key, given.is_good)
-}
-
-// Looks at all words of a text, by a list of keys and how the number of each is written.
-pub(crate) fn look(text: &[u8], keys: &[u8], forms: &[u8], values: &mut Values) -> Fields {
+// Looks at all words of a text, by a list of keys and how the number of each is written. Each has to be good.
+pub(crate) fn look(text: &[u8], keys: &[u8], forms: &[u8], values: &mut Values) -> Option<Fields> {
     let mut fields = Fields::NONE;
-    let mut at = 0;
-    loop {
-        let end = slices::find(text, at, text.len(), b' ');
-        fields = with_word(fields, words::part(text, at, end), keys, forms, values);
-        if end == text.len() {
-            return fields;
-        }
-        at = end + 1;
+    for word in text.split(|b| *b == b' ') {
+        let key = words::index(keys, words::key(word));
+        let x = number(words::value(word), form_of(forms, key))?;
+        note(values, key, x);
+        fields = fields.with(key)?;
     }
+    Some(fields)
 }

@@ -4,7 +4,6 @@ use crate::fields::{ALONE, DECIMAL, Fields, Values};
 use answer::Written;
 use details::{fixed, refusals};
 use header::Header;
-use lines::least;
 use types::{Seid, SequenceNumber};
 
 // The keys of a record, and how the number of each is written.
@@ -34,16 +33,14 @@ const ROOM: usize = 9;
 
 // A line that is no header in hex is a record.
 pub(crate) fn put(out: &mut [u8], at: usize, text: &[u8], payload: &mut [u8]) -> usize {
-    let filled = words::payload(text, payload);
-    if filled.is_good {
-        return put_read(out, at, texts::part(payload, 0, filled.len));
+    if let Some(len) = words::payload(text, payload) {
+        return put_read(out, at, texts::part(payload, 0, len));
     }
     let mut values = [0u64; 16];
     values[ROOM] = 65535;
-    let fields = fields::look(text, &KEYS, &FORMS, &mut values);
-    if !fields.is_good {
+    let Some(fields) = fields::look(text, &KEYS, &FORMS, &mut values) else {
         return rows::put_other(out, at);
-    }
+    };
     if 65535 < values[ROOM] {
         return rows::put_other(out, at);
     }
@@ -78,7 +75,7 @@ fn record_of(fields: Fields, values: &Values) -> Header {
 
 // Writes a record where there is so much room. No header is longer than the output here, so that more room changes nothing.
 fn write(record: Header, wire: &mut [u8], room: usize) -> Written {
-    let room = least(room, wire.len());
+    let room = room.min(wire.len());
     record.marshal(&mut wire[0..room])
 }
 

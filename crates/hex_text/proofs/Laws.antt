@@ -6,13 +6,13 @@ use native.Mathlib.Omega.{arith}
 use mathlib.Core.Path.{◌≡◌, refl, sym, ap, ◌∙◌}
 use mathlib.Core.Bool.{Bool, true, false, ◌&&◌}
 use mathlib.Core.List.{List, [], ◌∷◌, ◌++◌, append-nil}
-use Rattle.std.specs.Prelude.{Option, None, Some}
+use Rattle.std.specs.Prelude.{Option, None, Some, unwrap_or}
 use lib.ListN.{length, take, drop, get_or, set, length-append, length-drop, length-set, take-append-drop, drop_of_length-le}
 use lib.Seq.{drop-cons, drop-drop, take-suc-set, append_snoc, drop-set-lt, length-take-le}
 use lib.Dec.{leb, ltb, lit<}
 use borrow.Author.Tests.{lt-ltb, le-ltb, leb-true, leb-false, ltb-false}
 use Rattle.octets.specs.Octets.{pick, Bytes, over, put}
-use Rattle.octets.proofs.Laws.{over_set, put_set, put_fits, put_behind, put_nil}
+use Rattle.octets.proofs.Laws.{over_nil, over_set, put_set, put_fits, put_behind, put_nil}
 use Rattle.hex_text.proofs.Table.{tabled, entry}
 use Rattle.hex_text.specs.Hex.{digit, spelled, within, worth, led, pairs, tens, decimal}
 
@@ -246,6 +246,36 @@ decimal_most (suc k) n h = go (leb 10 n) refl (decimal_most k (n / 10) ((div-lt_
     go true e f = omega (arith, length_last n (leb-true 10 n e))
     go false e f = omega (arith, length_one n (leb-false 10 n e))
 
+-- the digits that are still to be written, where so many are: none, or all of a number's
+unfoldable pub still : ℕ → ℕ → List ℕ
+still zero n = []
+still (suc k) n = decimal n
+
+pub still_all : (n k : ℕ) → k ≡ length (decimal n) → still k n ≡ decimal n
+unfolding still
+still_all n zero e = absurd (omega (arith, decimal_some n))
+still_all n (suc k) e = refl
+
+pub still_none : (d : List ℕ) (at k n : ℕ) → k ≤ 0 → over d at (still k n) ≡ d
+unfolding still
+still_none d at zero n h = over_nil d at
+still_none d at (suc k) n h = absurd (omega arith)
+
+-- of one digit is a number below 10, and of more any other
+one_digit : (n : ℕ) → 1 ≡ length (decimal n) → n < 10
+one_digit n e = go (leb 10 n) refl
+  where
+    go : (t : Bool) → leb 10 n ≡ t → n < 10
+    go true q = absurd (omega (arith, length_last n (leb-true 10 n q), decimal_some (n / 10)))
+    go false q = leb-false 10 n q
+
+more_digits : (k n : ℕ) → suc (suc k) ≡ length (decimal n) → 10 ≤ n
+more_digits k n e = go (leb 10 n) refl
+  where
+    go : (t : Bool) → leb 10 n ≡ t → 10 ≤ n
+    go true q = leb-true 10 n q
+    go false q = absurd (omega (arith, length_one n (leb-false 10 n q)))
+
 -- the last digit stored, the others are still to be written
 pub over_last : (d : List ℕ) (at left n x : ℕ) → 10 ≤ n → left ≡ length (decimal n) → at + left ≤ length d → x ≡ digit (n % 10)
     → over (set d (at + (left - 1)) x) at (decimal (n / 10)) ≡ over d at (decimal n)
@@ -256,3 +286,25 @@ over_last d at left n x h e r q =
 -- the first digit stored, all are written
 pub over_first : (d : List ℕ) (at n x : ℕ) → n < 10 → at < length d → x ≡ digit n → set d at x ≡ over d at (decimal n)
 over_first d at n x h r q = rw (decimal_one n h, ← q) (put_set d at x r ∙ put_fits d at (x ∷ []) (omega arith))
+
+pub still_length : (k n : ℕ) → 0 < k → k ≡ length (still k n) → k - 1 ≡ length (still (k - 1) (n / 10))
+unfolding still
+still_length zero n h e = absurd (omega arith)
+still_length (suc zero) n h e = refl
+still_length (suc (suc k)) n h e =
+    let m : suc (suc k) - 1 ≡ suc k = omega arith in
+    rw m (omega (arith, length_last n (more_digits k n e)))
+
+pub still_more : (d : List ℕ) (at k n x : ℕ) → 0 < k → k ≡ length (still k n) → at + k ≤ length d → x ≡ digit (n % 10)
+    → over (set d (at + (k - 1)) x) at (still (k - 1) (n / 10)) ≡ over d at (still k n)
+unfolding still
+still_more d at zero n x h e r q = absurd (omega arith)
+still_more d at (suc zero) n x h e r q =
+    let small = one_digit n e in
+    let m : n % 10 ≡ n = omega arith in
+    let k : at + 0 ≡ at = omega arith in
+    rw k (over_nil (set d at x) at) ∙ over_first d at n x small (omega arith) (rw m at q)
+still_more d at (suc (suc k)) n x h e r q =
+    let m : suc (suc k) - 1 ≡ suc k = omega arith in
+    let o : over (set d (at + (suc (suc k) - 1)) x) at (decimal (n / 10)) ≡ over d at (decimal n) = over_last d at (suc (suc k)) n x (more_digits k n e) e r q in
+    rw m (rw m at o)

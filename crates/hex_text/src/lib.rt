@@ -18,14 +18,6 @@ fn digit_of(n: u8) -> u8
     DIGITS[n as usize]
 }
 
-// How many pairs of characters a text has, as far as there is room for their bytes.
-fn pairs_in(text_len: usize, room: usize) -> usize
-    ensures { result ≡ min room (text_len / 2) }
-{
-    let whole = text_len / 2;
-    if whole < room { whole } else { room }
-}
-
 // Puts the bytes of the digit pairs that a text begins with at the start of an output, as far as it has room, and answers how many
 // they are.
 pub fn parse(text: &[u8], out: &mut [u8]) -> usize
@@ -35,17 +27,15 @@ pub fn parse(text: &[u8], out: &mut [u8]) -> usize
 {
     // The table is laid out once a call, not once a digit.
     let worths = WORTHS;
-    let n = pairs_in(text.len(), out.len());
-    let mut i = 0;
-    while i < n {
+    let n = out.len().min(text.len() / 2);
+    for i in 0..n {
         let b = worths[text[2 * i] as usize] * 16 + worths[text[2 * i + 1] as usize];
         if 255 < b {
             return i;
         }
         out[i] = b as u8;
-        i += 1;
     }
-    i
+    n
 }
 
 // Puts bytes at a place, in upper-case hex.
@@ -58,12 +48,9 @@ pub fn put_hex(out: &mut [u8], at: usize, bs: &[u8])
     if out.len() - 2 * bs.len() < at {
         return;
     }
-    let mut i = 0;
-    while i < bs.len() {
-        let b = bs[i];
+    for (i, b) in bs.iter().enumerate() {
         out[at + 2 * i] = digit_of(b / 16);
         out[at + 2 * i + 1] = digit_of(b % 16);
-        i += 1;
     }
 }
 
@@ -76,7 +63,7 @@ pub fn decimal_len(n: u64) -> usize
     let mut rest = n;
     while 10 <= rest {
         len += 1;
-        rest = rest / 10;
+        rest /= 10;
     }
     len
 }
@@ -92,12 +79,9 @@ pub fn put_decimal(out: &mut [u8], at: usize, n: u64)
     if out.len() - len < at {
         return;
     }
-    let mut left = len;
     let mut rest = n;
-    while 10 <= rest {
-        left -= 1;
-        out[at + left] = digit_of((rest % 10) as u8);
-        rest = rest / 10;
+    for i in (0..len).rev() {
+        out[at + i] = digit_of((rest % 10) as u8);
+        rest /= 10;
     }
-    out[at] = digit_of(rest as u8);
 }

@@ -21,15 +21,12 @@ struct Asked {
     len: usize,
 }
 
-impl Asked {
-    // A line of another form has no letter.
-    const OTHER: Asked = Asked { letter: 0, len: 0 };
-}
-
 pub(crate) fn put(out: &mut [u8], at: usize, line: &[u8], payload: &mut [u8]) -> usize {
     let is_verdict = check::same(words::part(line, 0, 1), b"V");
     let plain = words::part(line, octets::if_set(is_verdict, 1), line.len());
-    let asked = take(plain, payload);
+    let Some(asked) = take(plain, payload) else {
+        return rows::put_other(out, at);
+    };
     let bytes = texts::part(payload, 0, asked.len);
     if is_verdict {
         return put_verdict(out, at, asked.letter, bytes);
@@ -37,25 +34,22 @@ pub(crate) fn put(out: &mut [u8], at: usize, line: &[u8], payload: &mut [u8]) ->
     put_row(out, at, asked.letter, bytes)
 }
 
-// Takes a line without its `V` apart, and its payload into memory.
-fn take(line: &[u8], payload: &mut [u8]) -> Asked {
+// Takes a line without its `V` apart, and its payload into memory, where it has the form of one.
+fn take(line: &[u8], payload: &mut [u8]) -> Option<Asked> {
     if line.len() < 3 {
-        return Asked::OTHER;
+        return None;
     }
     if PLAIN < line.len() {
-        return Asked::OTHER;
+        return None;
     }
     if line[1] != b' ' {
-        return Asked::OTHER;
+        return None;
     }
-    let filled = words::payload(&line[2..], payload);
-    if !filled.is_good {
-        return Asked::OTHER;
-    }
-    Asked {
+    let len = words::payload(&line[2..], payload)?;
+    Some(Asked {
         letter: line[0],
-        len: filled.len,
-    }
+        len,
+    })
 }
 
 // The strict verdict on a payload, by its letter.

@@ -5,7 +5,6 @@ ghost use Rattle.hex_text.specs.Hex.{spelled, decimal};
 ghost use Rattle.rows.specs.Row.{quoted, length_of, bracketed, shown, past, ends, puts};
 
 use crate::Value;
-use lines::{after, left};
 
 // A dash.
 pub(crate) const ABSENT: u64 = 0;
@@ -35,7 +34,7 @@ pub(crate) fn words(out: &mut [u8], at: usize, bs: &[u8]) -> usize
     ensures out_after { out.new ≡ put out.old at bs.now }
 {
     octets::put_bytes(out, at, bs);
-    after(at, bs.len())
+    at.saturating_add(bs.len())
 }
 
 fn byte(out: &mut [u8], at: usize, b: u8) -> usize
@@ -43,7 +42,7 @@ fn byte(out: &mut [u8], at: usize, b: u8) -> usize
     ensures out_after { out.new ≡ put out.old at (b ∷ []) }
 {
     octets::put_byte(out, at, b);
-    after(at, 1)
+    at.saturating_add(1)
 }
 
 fn digits(out: &mut [u8], at: usize, bs: &[u8]) -> usize
@@ -51,7 +50,7 @@ fn digits(out: &mut [u8], at: usize, bs: &[u8]) -> usize
     ensures out_after { out.new ≡ put out.old at (spelled bs.now) }
 {
     hex_text::put_hex(out, at, bs);
-    after(after(at, bs.len()), bs.len())
+    at.saturating_add(bs.len()).saturating_add(bs.len())
 }
 
 fn decimal(out: &mut [u8], at: usize, n: u64) -> usize
@@ -59,7 +58,7 @@ fn decimal(out: &mut [u8], at: usize, n: u64) -> usize
     ensures out_after { out.new ≡ put out.old at (decimal n) }
 {
     hex_text::put_decimal(out, at, n);
-    after(at, hex_text::decimal_len(n))
+    at.saturating_add(hex_text::decimal_len(n))
 }
 
 fn signed(out: &mut [u8], at: usize, sign: u8, n: u64) -> usize
@@ -77,7 +76,11 @@ fn number(out: &mut [u8], at: usize, width: u64, high: u64, low: u64) -> usize
     let mut bs = [0u8; 16];
     octets::put_number(&mut bs, 0, 8, high);
     octets::put_number(&mut bs, 8, 8, low);
-    digits(out, at, texts::part(&bs, left(16, width as usize), 16))
+    digits(
+        out,
+        at,
+        texts::part(&bs, 16usize.saturating_sub(width as usize), 16),
+    )
 }
 
 fn text(out: &mut [u8], at: usize, bs: &[u8]) -> usize
@@ -115,14 +118,12 @@ fn list(out: &mut [u8], at: usize, slice: &[u8], place: usize, count: u64) -> us
     let mut end = at;
     let mut mark = b'[';
     let mut next = place;
-    let mut more = count;
-    while 0 < more {
+    for _ in 0..count {
         let len = length_at(slice, next);
-        let from = after(next, 2);
+        let from = next.saturating_add(2);
         end = entry(out, end, mark, texts::part(slice, from, len));
-        next = after(from, len);
+        next = from.saturating_add(len);
         mark = b',';
-        more -= 1;
     }
     byte(out, end, b']')
 }

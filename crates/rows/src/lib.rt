@@ -11,7 +11,6 @@ ghost use Rattle.rows.specs.Values.{absent, nothing, count_value, signed_value, 
 ghost use Rattle.rows.specs.Row.{pieces, other, numbered, ends, puts};
 
 use form::{COUNT, HEX, LIST, PART, SIGNED, TEXT};
-use lines::{after, least, left};
 use octets::{MaybeIpv4, MaybeIpv6};
 
 // A value of a row: its form, and what that takes.
@@ -132,10 +131,9 @@ fn line_end(words: &[u8], from: usize) -> usize
     ensures value { result ≡ min (from + suc (index_of 0x0A (drop from words.now))) (length words.now) }
     ensures upper_bound { result ≤ length words.now }
 {
-    least(
-        after(slices::find(words, from, words.len(), b'\n'), 1),
-        words.len(),
-    )
+    slices::find(words, from, words.len(), b'\n')
+        .saturating_add(1)
+        .min(words.len())
 }
 
 // The words of a row, by its number, where those of several stand one behind the other, each with its end.
@@ -143,21 +141,16 @@ pub fn row(words: &[u8], number: usize) -> &[u8]
     ensures { result.now ≡ numbered number words.now }
 {
     let mut from = 0;
-    let mut more = number;
-    while 0 < more {
+    for _ in 0..number {
         from = line_end(words, from);
-        more -= 1;
     }
-    texts::part(words, from, left(line_end(words, from), from))
+    texts::part(words, from, line_end(words, from).saturating_sub(from))
 }
 
 fn value_at(values: &[Value], i: usize) -> Value
     ensures { result ≡ get_or values.now i nothing }
 {
-    if values.len() <= i {
-        return NOTHING;
-    }
-    values[i]
+    values.get(i).copied().unwrap_or(NOTHING)
 }
 
 // Puts a row at a place of the output, and returns the place behind it. Each `#` of the words stands for the next value.

@@ -5,7 +5,7 @@ use native.Mathlib.Omega.{arith}
 use mathlib.Core.Path.{◌≡◌, refl, sym, ap, ap₂, ◌∙◌}
 use mathlib.Core.Bool.{Bool, true, false, not, ◌&&◌, and-false}
 use mathlib.Core.List.{List, [], ◌∷◌, ◌++◌, append-nil}
-use Rattle.std.specs.Prelude.{Option, None, Some}
+use Rattle.std.specs.Prelude.{Option, None, Some, SomeIff, option_map}
 use lib.Dec.{eqb, leb, ltb}
 use lib.ListN.{length, take, drop, get_or, replicate, length-drop, drop_of_length-le}
 use lib.Seq.{take_all, take-length, drop-drop, drop-cons, append_snoc}
@@ -15,9 +15,7 @@ use Rattle.octets.specs.Octets.{pick, field, big_endian, presence, put}
 use Rattle.octets.proofs.Laws.{put_start}
 use Rattle.hex_text.specs.Hex.{digit, within, pairs, tens, decimal}
 use Rattle.hex_text.proofs.Laws.{length_pairs, decimal_some as decimal-digits}
-use Rattle.words.specs.declared.Parsed.{Parsed}
-use Rattle.words.specs.declared.Filled.{Filled}
-use Rattle.words.specs.Words.{cut, words_of, same, place_of, are_digits, spells, decimal_of, are_pairs, hexadecimal_of, as_parsed, payload_of, as_filled}
+use Rattle.words.specs.Words.{cut, words_of, same, place_of, are_digits, spells, decimal_of, are_pairs, hexadecimal_of, payload_of}
 use Rattle.words.specs.Steps.{with_digit}
 
 -- ---- the same word
@@ -152,17 +150,19 @@ pub digit_no : (n c : ℕ) → within 0x30 0x39 c ≡ false → with_digit n c �
 unfolding with_digit presence
 digit_no n c h = rw h
 
-module _ (n c : ℕ) (low : 0x30 ≤ c) (high : c ≤ 0x39) where
-  is_digit : within 0x30 0x39 c ≡ true
-  is_digit = rw (le-leb 0x30 c low, le-leb c 0x39 high)
-
+module _ (n c : ℕ) (is_digit : within 0x30 0x39 c ≡ true) where
   pub digit_over : 2 ^ 64 ≤ n * 10 + (c - 0x30) → with_digit n c ≡ None
   unfolding with_digit presence
   digit_over h = rw (is_digit, le-ltb (n * 10 + (c - 0x30)) (2 ^ 64) h)
 
-  pub digit_yes : n * 10 + (c - 0x30) < 2 ^ 64 → with_digit n c ≡ Some (n * 10 + (c - 0x30))
+  digit_yes : n * 10 + (c - 0x30) < 2 ^ 64 → with_digit n c ≡ Some (n * 10 + (c - 0x30))
   unfolding with_digit presence
   digit_yes h = rw (is_digit, lt-ltb (n * 10 + (c - 0x30)) (2 ^ 64) h)
+
+  -- a sum that is there where it fits
+  pub digit_sum : (r : Option ℕ) (m : ℕ) → m ≡ n * 10 → SomeIff r (m + (c - 0x30) < 2 ^ 64) (m + (c - 0x30)) → r ≡ with_digit n c
+  digit_sum None m e h = sym (digit_over (omega (arith, h)))
+  digit_sum (Some x) m e h = ap Some (h.1 ∙ ap (λ (k : ℕ). k + (c - 0x30)) e) ∙ sym (digit_yes (omega (arith, h.0)))
 
 number_more : (n m c : ℕ) (s : List ℕ) → with_digit n c ≡ Some m → number_from n (c ∷ s) ≡ number_from m s
 unfolding with_digit presence are_digits spells
@@ -197,23 +197,6 @@ number_stop n c s e = go (within 0x30 0x39 c) (ltb (n * 10 + (c - 0x30)) (2 ^ 64
         rw (le-ltb (spells (n * 10 + (c - 0x30)) s) (2 ^ 64) bigger, and-false (are_digits s))
     go false u f e = refl
 
--- what a number that was parsed says of its text
-parsed_good : (o : Option ℕ) (r : Parsed) → r ≡ as_parsed o → not r.is_good ≡ false → o ≡ Some r.value
-unfolding as_parsed
-parsed_good (Some m) r e h = ap Some (sym (ap (λ (x : Parsed). x.value) e))
-parsed_good None r e h =
-    let q : r.is_good ≡ false = ap (λ (x : Parsed). x.is_good) e in
-    let f = rw q at h in
-    let z : ◌≡◌ {A = ℕ} 0 1 = cc in absurd (omega arith)
-
-parsed_bad : (o : Option ℕ) (r : Parsed) → r ≡ as_parsed o → not r.is_good ≡ true → o ≡ None
-unfolding as_parsed
-parsed_bad None r e h = refl
-parsed_bad (Some m) r e h =
-    let q : r.is_good ≡ true = ap (λ (x : Parsed). x.is_good) e in
-    let f = rw q at h in
-    let z : ◌≡◌ {A = ℕ} 0 1 = cc in absurd (omega arith)
-
 pub decimal_none : (text : List ℕ) → length text ≡ 0 → decimal_of text ≡ None
 unfolding decimal_of presence
 decimal_none [] h = refl
@@ -225,29 +208,23 @@ decimal_some [] h = absurd (h refl)
 decimal_some (c ∷ s) h = rw (lt-ltb 0 (suc (length s)) (omega arith))
 
 -- a turn of the loop
-module _ (text : List ℕ) (n i : ℕ) (r : Parsed) (more : i < length text) (step : r ≡ as_parsed (with_digit n (get_or text i 0))) (left : number_from n (drop i text) ≡ decimal_of text) where
-  pub decimal_stop : not r.is_good ≡ true → r ≡ as_parsed (decimal_of text)
-  decimal_stop h =
-      let bad = parsed_bad (with_digit n (get_or text i 0)) r step h in
-      step ∙ ap as_parsed (bad ∙ sym (number_stop n (get_or text i 0) (drop (suc i) text) bad) ∙ ap (number_from n) (sym (drop-cons text i 0 more)) ∙ left)
+module _ (text : List ℕ) (n i : ℕ) (more : i < length text) (left : number_from n (drop i text) ≡ decimal_of text) where
+  pub decimal_stop : with_digit n (get_or text i 0) ≡ None → None ≡ decimal_of text
+  decimal_stop bad = sym (number_stop n (get_or text i 0) (drop (suc i) text) bad) ∙ ap (number_from n) (sym (drop-cons text i 0 more)) ∙ left
 
-  module _ (h : not r.is_good ≡ false) where
-    good : with_digit n (get_or text i 0) ≡ Some r.value
-    good = parsed_good (with_digit n (get_or text i 0)) r step h
+  pub decimal_fits : (m : ℕ) → with_digit n (get_or text i 0) ≡ Some m → m < 2 ^ 64
+  decimal_fits m good = number_fits n m (get_or text i 0) good
 
-    pub decimal_fits : r.value < 2 ^ 64
-    decimal_fits = number_fits n r.value (get_or text i 0) good
+  pub decimal_more : (m : ℕ) → with_digit n (get_or text i 0) ≡ Some m → number_from m (drop (i + 1) text) ≡ decimal_of text
+  decimal_more m good =
+      rw add-one (sym (number_more n m (get_or text i 0) (drop (suc i) text) good) ∙ ap (number_from n) (sym (drop-cons text i 0 more)) ∙ left)
 
-    pub decimal_more : number_from r.value (drop (i + 1) text) ≡ decimal_of text
-    decimal_more =
-        rw add-one (sym (number_more n r.value (get_or text i 0) (drop (suc i) text) good) ∙ ap (number_from n) (sym (drop-cons text i 0 more)) ∙ left)
-
-pub decimal_all : (text : List ℕ) (n i : ℕ) (r : Parsed) → length text ≤ i → n < 2 ^ 64 → number_from n (drop i text) ≡ decimal_of text → r ≡ as_parsed (Some n) → r ≡ as_parsed (decimal_of text)
+pub decimal_all : (text : List ℕ) (n i : ℕ) → length text ≤ i → n < 2 ^ 64 → number_from n (drop i text) ≡ decimal_of text → Some n ≡ decimal_of text
 unfolding presence are_digits spells
-decimal_all text n i r end fits left e =
-    let None : drop i text ≡ [] = drop_of_length-le text {i = i} end in
+decimal_all text n i end fits left =
+    let none : drop i text ≡ [] = drop_of_length-le text {i = i} end in
     let all : number_from n [] ≡ Some n = rw (lt-ltb n (2 ^ 64) fits) in
-    e ∙ ap as_parsed (sym all ∙ ap (number_from n) (sym None) ∙ left)
+    sym all ∙ ap (number_from n) (sym none) ∙ left
 
 -- ---- a number in decimal is read back
 spells_last : (n c : ℕ) (s : List ℕ) → spells n (s ++ (c ∷ [])) ≡ spells n s * 10 + (c - 0x30)
@@ -285,12 +262,12 @@ tens_back (suc k) n h = go (ltb n 10) refl (λ more. tens_back k (n / 10) (omega
         → (spells 0 (pick t [] (tens k (n / 10)) ++ (digit (n % 10) ∷ [])) ≡ n) × (are_digits (pick t [] (tens k (n / 10)) ++ (digit (n % 10) ∷ [])) ≡ true)
     go true e f =
         let small = ltb-true n 10 e in (
-          spells_last 0 (digit (n % 10)) [] ∙ None ∙ rw (digit_is (n % 10) last) (omega arith),
+          spells_last 0 (digit (n % 10)) [] ∙ none ∙ rw (digit_is (n % 10) last) (omega arith),
           digits_last (digit (n % 10)) [] (digit_within (n % 10) last) nothing,
         )
       where
-        None : spells 0 [] * 10 + (digit (n % 10) - 0x30) ≡ digit (n % 10) - 0x30
-        None = unfold spells in omega arith
+        none : spells 0 [] * 10 + (digit (n % 10) - 0x30) ≡ digit (n % 10) - 0x30
+        none = unfold spells in omega arith
 
         nothing : are_digits [] ≡ true
         nothing = unfold are_digits in refl
@@ -320,36 +297,35 @@ module _ (s : List ℕ) (width n : ℕ) (a b c : Bool) (count : n ≡ length (pa
   test : ltb 0 width && (eqb (length (pairs 8 s)) width && are_pairs 8 s) ≡ a
   test = sym (some-wide ∙ rw (asked, wide, count))
 
-  pub hex_bad : (r : Parsed) → not a ≡ true → r ≡ as_parsed None → r ≡ as_parsed (hexadecimal_of width s)
+  pub hex_bad : not a ≡ true → None ≡ hexadecimal_of width s
   unfolding hexadecimal_of presence
-  hex_bad r h e = e ∙ rw (test, not-true a h)
+  hex_bad h = rw (test, not-true a h)
 
-  pub hex_good : (r : Parsed) (d p : List ℕ) (v : ℕ) → not a ≡ false → d ≡ put (replicate 8 0) 0 (pairs 8 s) → p ≡ take n (drop 0 d) → v ≡ pick (leb (length p) 8) (big_endian p) 0 → r ≡ as_parsed (Some v)
-      → r ≡ as_parsed (hexadecimal_of width s)
+  pub hex_good : (d p : List ℕ) (v : ℕ) → not a ≡ false → d ≡ put (replicate 8 0) 0 (pairs 8 s) → p ≡ take n (drop 0 d) → v ≡ pick (leb (length p) 8) (big_endian p) 0 → Some v ≡ hexadecimal_of width s
   unfolding hexadecimal_of presence
-  hex_good r d p v h ed ep ev e =
+  hex_good d p v h ed ep ev =
       let few : length (pairs 8 s) ≤ 8 = (length_pairs 8 s).0 in
       let bs : p ≡ pairs 8 s = ep ∙ rw (ed, count) (put_start (replicate 8 0) (pairs 8 s) few) in
       let number : v ≡ big_endian (pairs 8 s) = ev ∙ rw (bs, le-leb (length (pairs 8 s)) 8 few) in
-      e ∙ rw (test, not-false a h, number)
+      rw (test, not-false a h, number)
 
 -- ---- payloads
 module _ (s : List ℕ) (room n : ℕ) (t : Bool) (count : n ≡ length (pairs room s)) (dash : (t ≡ true → s ≡ (0x2D ∷ [])) × (s ≡ (0x2D ∷ []) → t ≡ true)) where
-  pub payload_dash : (r : Filled) → t ≡ true → r ≡ as_filled (Some []) → r ≡ as_filled (payload_of room s)
+  pub payload_dash : t ≡ true → Some 0 ≡ option_map length (payload_of room s)
   unfolding payload_of
-  payload_dash r h e = e ∙ rw (← told s (0x2D ∷ []) t dash, h)
+  payload_dash h = rw (← told s (0x2D ∷ []) t dash, h)
 
   module _ (a b : Bool) (no-dash : t ≡ false) (all : b ≡ eqb (2 * n) (length s)) (good : a ≡ ltb 0 (length s) && b) where
     pays : ltb 0 (length s) && are_pairs room s ≡ a
     pays = sym (good ∙ rw (all, count))
 
-    pub payload_bad : (r : Filled) → not a ≡ true → r ≡ as_filled None → r ≡ as_filled (payload_of room s)
+    pub payload_bad : not a ≡ true → None ≡ option_map length (payload_of room s)
     unfolding payload_of presence
-    payload_bad r h e = e ∙ rw (← told s (0x2D ∷ []) t dash, no-dash, pays, not-true a h)
+    payload_bad h = rw (← told s (0x2D ∷ []) t dash, no-dash, pays, not-true a h)
 
-    pub payload_good : (r : Filled) → not a ≡ false → r ≡ record { is_good = true; len = n } → r ≡ as_filled (payload_of room s)
-    unfolding payload_of presence as_filled
-    payload_good r h e = e ∙ rw (← told s (0x2D ∷ []) t dash, no-dash, pays, not-false a h, count)
+    pub payload_good : not a ≡ false → Some n ≡ option_map length (payload_of room s)
+    unfolding payload_of presence
+    payload_good h = rw (← told s (0x2D ∷ []) t dash, no-dash, pays, not-false a h, count)
 
 -- where a text is a payload, that stands at the start of the output
 pub payload_there : (s d bs : List ℕ) → payload_of (length d) s ≡ Some bs → take (length bs) (put d 0 (pairs (length d) s)) ≡ bs

@@ -4,8 +4,6 @@ use Rattle.std.specs.Prelude.{Option, None, Some}
 use Rattle.slices.specs.Slices.{index_of}
 use Rattle.octets.specs.Octets.{pick, big_endian, presence}
 use Rattle.hex_text.specs.Hex.{within, pairs}
-use Rattle.words.specs.declared.Parsed.{Parsed}
-use Rattle.words.specs.declared.Filled.{Filled}
 
 -- ---- words
 -- a text cut at each space, behind what there is already of its first word
@@ -60,17 +58,7 @@ are_pairs most s = eqb (2 * length (pairs most s)) (length s)
 unfoldable pub hexadecimal_of : ℕ → List ℕ → Option ℕ
 hexadecimal_of width s = presence (ltb 0 width && (eqb (length (pairs 8 s)) width && are_pairs 8 s)) (big_endian (pairs 8 s))
 
--- a number that a text has, and 0 where it has none
-unfoldable pub as_parsed : Option ℕ → Parsed
-as_parsed None = record { is_good = false; value = 0 }
-as_parsed (Some n) = record { is_good = true; value = n }
-
 -- ---- payloads
 -- the payload of a text, where there is room for so many bytes: no byte for a dash; else digit pairs, at least one, and nothing else
 unfoldable pub payload_of : ℕ → List ℕ → Option (List ℕ)
 payload_of room s = pick (same s (0x2D ∷ [])) (Some []) (presence (ltb 0 (length s) && are_pairs room s) (pairs room s))
-
--- how many bytes a payload has, and 0 where there is none
-unfoldable pub as_filled : Option (List ℕ) → Filled
-as_filled None = record { is_good = false; len = 0 }
-as_filled (Some bs) = record { is_good = true; len = length bs }

@@ -1,42 +1,20 @@
 // Words of a line, and what they say: keys, values, numbers, payloads.
 #![tactic(auto)]
 
-ghost use Rattle.std.specs.Prelude.{◌≡◌, [], suc, ◌-◌, ◌*◌, eqb, length, get_or};
+ghost use Rattle.std.specs.Prelude.{◌≡◌, [], suc, ◌-◌, ◌*◌, eqb, length, get_or, option_map};
 ghost use Rattle.slices.specs.Slices.{index_of};
 ghost use Rattle.octets.specs.Octets.{field, put};
 ghost use Rattle.hex_text.specs.Hex.{pairs};
-ghost use Rattle.words.specs.Words.{words_of, place_of, key_of, value_of, decimal_of, hexadecimal_of, as_parsed, payload_of, as_filled};
+ghost use Rattle.words.specs.Words.{words_of, place_of, key_of, value_of, decimal_of, hexadecimal_of, payload_of};
 ghost use Rattle.words.specs.Steps.{with_digit};
 
-use lines::left;
 use octets::both;
-
-// A number; not good, and 0, where a text has none.
-#[derive(Clone, Copy)]
-pub struct Parsed {
-    pub is_good: bool,
-    pub value: u64,
-}
-
-impl Parsed {
-    const BAD: Parsed = Parsed {
-        is_good: false,
-        value: 0,
-    };
-}
-
-// How many bytes of an output are a payload; not good, and 0, where a text is none.
-#[derive(Clone, Copy)]
-pub struct Filled {
-    pub is_good: bool,
-    pub len: usize,
-}
 
 // The bytes between two places, as far as they are there.
 pub fn part(s: &[u8], from: usize, to: usize) -> &[u8]
     ensures { result.now ≡ field s.now from (to - from) }
 {
-    texts::part(s, from, left(to, from))
+    texts::part(s, from, to.saturating_sub(from))
 }
 
 // The place of a word in a list of words; how many these are where it isn't there.
@@ -87,46 +65,27 @@ pub fn value(word: &[u8]) -> &[u8]
 }
 
 // A number with a further digit, where the character is one and the number still fits.
-fn with_digit(n: u64, b: u8) -> Parsed
-    ensures { result ≡ as_parsed (with_digit n b) }
+fn with_digit(n: u64, b: u8) -> Option<u64>
+    ensures { result ≡ with_digit n b }
 {
-    if b < b'0' {
-        return Parsed::BAD;
+    if !b.is_ascii_digit() {
+        return None;
     }
-    if b'9' < b {
-        return Parsed::BAD;
-    }
-    let digit = (b - b'0') as u64;
-    if (u64::MAX - digit) / 10 < n {
-        return Parsed::BAD;
-    }
-    Parsed {
-        is_good: true,
-        value: n * 10 + digit,
-    }
+    n.checked_mul(10)?.checked_add((b - b'0') as u64)
 }
 
 // A number in decimal.
-pub fn decimal(text: &[u8]) -> Parsed
-    ensures { result ≡ as_parsed (decimal_of text.now) }
+pub fn decimal(text: &[u8]) -> Option<u64>
+    ensures { result ≡ decimal_of text.now }
 {
-    if text.len() == 0 {
-        return Parsed::BAD;
+    if text.is_empty() {
+        return None;
     }
-    let mut n: u64 = 0;
-    let mut i = 0;
-    while i < text.len() {
-        let longer = with_digit(n, text[i]);
-        if !longer.is_good {
-            return longer;
-        }
-        n = longer.value;
-        i += 1;
+    let mut n = 0;
+    for b in text {
+        n = with_digit(n, *b)?;
     }
-    Parsed {
-        is_good: true,
-        value: n,
-    }
+    Some(n)
 }
 
 // Whether a text of so many characters is just so many pairs.
@@ -137,38 +96,29 @@ fn is_whole(len: usize, count: usize) -> bool
 }
 
 // A number in hex of so many digit pairs, one to eight.
-pub fn hexadecimal(text: &[u8], width: usize) -> Parsed
-    ensures { result ≡ as_parsed (hexadecimal_of width text.now) }
+pub fn hexadecimal(text: &[u8], width: usize) -> Option<u64>
+    ensures { result ≡ hexadecimal_of width text.now }
 {
     let mut bs = [0u8; 8];
     let n = hex_text::parse(text, &mut bs);
     if !both(0 < width, both(n == width, is_whole(text.len(), n))) {
-        return Parsed::BAD;
+        return None;
     }
-    Parsed {
-        is_good: true,
-        value: octets::number(texts::part(&bs, 0, n)),
-    }
+    Some(octets::number(texts::part(&bs, 0, n)))
 }
 
-// Puts the bytes of the digit pairs that a text begins with at the start of an output, and says whether they are its payload: a
-// dash is the empty one.
-pub fn payload(text: &[u8], out: &mut [u8]) -> Filled
-    ensures value { result ≡ as_filled (payload_of (length out.old) text.now) }
+// Puts the bytes of the digit pairs that a text begins with at the start of an output, and says how many of these are its payload,
+// where it is one: a dash is the empty one.
+pub fn payload(text: &[u8], out: &mut [u8]) -> Option<usize>
+    ensures value { result ≡ option_map length (payload_of (length out.old) text.now) }
     ensures out_after { out.new ≡ put out.old 0 (pairs (length out.old) text.now) }
 {
     let len = hex_text::parse(text, out);
     if check::same(text, b"-") {
-        return Filled {
-            is_good: true,
-            len: 0,
-        };
+        return Some(0);
     }
     if !both(0 < text.len(), is_whole(text.len(), len)) {
-        return Filled {
-            is_good: false,
-            len: 0,
-        };
+        return None;
     }
-    Filled { is_good: true, len }
+    Some(len)
 }

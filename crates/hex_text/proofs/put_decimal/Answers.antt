@@ -3,7 +3,7 @@ use native.Mathlib.Omega.{arith}
 use mathlib.Core.Path.{refl, sym, ◌∙◌}
 use lib.ListN.{length-set}
 use Rattle.octets.proofs.Laws.{put_fits, put_not}
-use Rattle.hex_text.proofs.Laws.{decimal_some, length_last, over_last, over_first}
+use Rattle.hex_text.proofs.Laws.{still_all, still_length, still_more, still_none}
 use Rattle.hex_text.proofs.put_decimal.Goals as goal
 
 pub returns-then-out-len : goal.returns-then-out-len
@@ -12,26 +12,19 @@ returns-then-out-len c = sym (put_not _ _ _ (omega arith))
 pub returns-then-out-len-2 : goal.returns-then-out-len-2
 returns-then-out-len-2 c = sym (put_not _ _ _ (omega arith))
 
-pub loop-rest-init : goal.loop-rest-init
-loop-rest-init c = (omega arith, omega arith, refl, sym (put_fits _ _ _ (omega arith)))
+pub loop-i-init : goal.loop-i-init
+loop-i-init c =
+    let e = still_all c.args.n _ c.decimal_len-len.ensures.value in
+    rw e (c.decimal_len-len.ensures.value, omega arith, refl, sym (put_fits _ _ _ (omega arith)))
 
-pub overflow_sub-left : goal.overflow_sub-left
-overflow_sub-left c = omega (arith, decimal_some c.loop-rest.rest)
-
-pub bounds-out-at : goal.bounds-out-at
-bounds-out-at c = omega (arith, decimal_some c.loop-rest.rest)
-
-pub loop-rest-preserved : goal.loop-rest-preserved
-loop-rest-preserved c = (
-  omega (arith, length_last c.loop-rest.rest (omega arith)),
-  simp length-set (omega arith),
-  simp length-set c.loop-rest.invariant.2,
-  over_last _ _ _ c.loop-rest.rest _ (omega arith) c.loop-rest.invariant.0 c.loop-rest.invariant.1 c.digit_of.ensures ∙ c.loop-rest.invariant.3,
-)
-
-pub bounds-out-at-2 : goal.bounds-out-at-2
-bounds-out-at-2 c = omega (arith, decimal_some c.loop-rest.rest)
+pub loop-i-preserved : goal.loop-i-preserved
+loop-i-preserved c =
+    let l = c.loop-i in (
+      still_length l.i l.rest c.loop-i-test.true l.invariant.0,
+      simp length-set (omega arith),
+      simp length-set l.invariant.2,
+      still_more _ _ l.i l.rest _ c.loop-i-test.true l.invariant.0 l.invariant.1 c.digit_of.ensures ∙ l.invariant.3,
+    )
 
 pub returns : goal.returns
-returns c =
-    over_first _ _ c.loop-rest.rest _ (omega arith) (omega (arith, decimal_some c.loop-rest.rest)) c.digit_of-2.ensures ∙ c.loop-rest.invariant.3
+returns c = sym (still_none _ _ c.loop-i.i _ c.loop-i-test.false) ∙ c.loop-i.invariant.3

@@ -14,21 +14,14 @@ pub returns-then-out-bs-2 : goal.returns-then-out-bs-2
 returns-then-out-bs-2 c = sym (put_not _ _ _ (omega (arith, length_spelled c.args.bs.now)))
 
 pub loop-i-init : goal.loop-i-init
-loop-i-init c = (omega arith, omega arith, refl, rw add-zero)
-
-pub digit_of-requires : goal.digit_of-requires
-digit_of-requires c = omega (arith, c.shared_slice_known-in-loop-i-1.given c.loop-i.i)
-
-pub bounds-out-at-in-loop-i : goal.bounds-out-at-in-loop-i
-bounds-out-at-in-loop-i c = simp length-set (omega arith)
+loop-i-init c = (omega arith, refl, rw add-zero)
 
 pub loop-i-preserved : goal.loop-i-preserved
 loop-i-preserved c = (
-  omega arith,
+  simp length-set c.loop-i.invariant.0,
   simp length-set c.loop-i.invariant.1,
-  simp length-set c.loop-i.invariant.2,
-  spelled_more _ _ c.loop-i.i _ _ _ (omega arith) c.loop-i.invariant.1 c.digit_of.ensures c.digit_of-in-loop-i.ensures ∙ c.loop-i.invariant.3,
+  spelled_more _ _ c.loop-i.i _ _ _ (omega arith) c.loop-i.invariant.0 c.digit_of.ensures c.digit_of-in-loop-i.ensures ∙ c.loop-i.invariant.2,
 )
 
 pub returns : goal.returns
-returns c = sym (spelled_all _ c.args.at c.loop-i.i _ c.loop-i-test.false) ∙ c.loop-i.invariant.3
+returns c = sym (spelled_all _ c.args.at c.loop-i.i _ c.loop-i-test.false) ∙ c.loop-i.invariant.2

@@ -6,4 +6,4 @@ use Rattle.rows.proofs.line_end.Goals as goal
 pub returns : goal.returns
 returns c =
     let s = c.args in
-    record { value = line_end s.words.now s.from _ _ _ (omega arith) c.find.ensures.value c.after.ensures.value c.least.ensures.value; upper_bound = c.least.ensures.upper_bound }
+    record { value = line_end s.words.now s.from _ _ _ (omega arith) c.find.ensures.value c.saturating_add.ensures c.min.ensures; upper_bound = omega (arith, c.min.ensures) }

@@ -2,4 +2,4 @@
 use Rattle.words.proofs.part.Goals as goal
 
 pub returns : goal.returns
-returns c = rw (← c.left.ensures) c.part.ensures
+returns c = rw (← c.saturating_sub.ensures) c.part.ensures
