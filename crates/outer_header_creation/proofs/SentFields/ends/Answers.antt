@@ -4,7 +4,6 @@ use mathlib.Core.Path.{◌≡◌}
 use Rattle.octets.specs.Octets.{if_set}
 use Rattle.outer_header_creation.specs.declared.SentFields.{SentFields}
 use Rattle.outer_header_creation.specs.Steps.{ends_of}
-use borrow.Author.Rules.{rules}
 use Rattle.outer_header_creation.proofs.SentFields.ends.Goals as goal
 
 each : (a : SentFields) (u1 u2 u3 u4 u5 u6 : ℕ)
@@ -13,5 +12,5 @@ each : (a : SentFields) (u1 u2 u3 u4 u5 u6 : ℕ)
 unfolding ends_of
 each a u1 u2 u3 u4 u5 u6 e1 e2 e3 e4 e5 e6 = rw (e1, e2, e3, e4, e5, e6)
 
-pub returns : goal.returns
-returns c = record { value = search each; rising = search rules }
+pub returns-clause-value : goal.returns-clause-value
+returns-clause-value c = search each
