@@ -60,12 +60,7 @@ fn note(values: &mut Values, key: usize, x: u64) {
 }
 
 // Looks at all words of a text, by a list of keys and how the number of each is written. Each has to be good.
-pub(crate) fn look(
-    text: &[u8],
-    keys: &[u8],
-    forms: &[u8],
-    values: &mut Values,
-) -> Option<Fields> {
+pub(crate) fn look(text: &[u8], keys: &[u8], forms: &[u8], values: &mut Values) -> Option<Fields> {
     let mut fields = Fields::NONE;
     for word in text.split(|b| *b == b' ') {
         let key = words::index(keys, words::key(word));

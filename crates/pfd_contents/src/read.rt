@@ -1,7 +1,7 @@
 // The reader: a row of eight steps, each from where the one before it came to.
 ghost use Rattle.std.specs.Prelude.{◌≡◌};
-ghost use Rattle.pfd_contents.specs.PfdContents.{refused, read_fields, read};
-ghost use Rattle.pfd_contents.specs.Steps.{as_read};
+ghost use Rattle.pfd_contents.specs.PfdContents.{refused, read};
+ghost use Rattle.pfd_contents.specs.Steps.{eight_steps};
 
 use crate::PfdContents;
 use answer::{Answer, Read};
@@ -18,7 +18,7 @@ fn refused(answer: Answer) -> Read<PfdContents>
 // The eight fields in wire order, behind the flags and the spare byte.
 #[inline(always)]
 pub fn read_fields(payload: &[u8], flags: u8) -> Result<Step<PfdContents>, Fault>
-    ensures { as_read result ≡ read_fields payload.now flags }
+    ensures { result ≡ eight_steps payload.now flags }
 {
     let urls_too = octets::bit(flags, 6);
     let names_too = octets::bit(flags, 7);

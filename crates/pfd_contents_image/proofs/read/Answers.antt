@@ -3,7 +3,7 @@ use borrow.Author.Rules.{rules}
 use native.Mathlib.Omega.{arith}
 use mathlib.Core.Path.{ap, ◌∙◌}
 use Rattle.pfd_contents.specs.PfdContents.{refused, read}
-use Rattle.pfd_contents.proofs.Returns.{too_long, too_short, enough}
+use Rattle.pfd_contents.proofs.Returns.{too_long, too_short, enough, as_fields}
 use Rattle.image.proofs.Laws.{read_short, read_long}
 use Rattle.pfd_contents_image.proofs.Reading.{accepted, refusal}
 use Rattle.pfd_contents_image.proofs.read.Goals as goal
@@ -22,10 +22,10 @@ put_image-requires c = search rules
 
 pub returns-in-Ok : goal.returns-in-Ok
 returns-in-Ok c =
-    let all = read_long _ _ _ (search rules) (accepted read _ _ c.put_image.ensures (enough _ _ (omega arith) (omega arith) (rw c.in-Ok.is at c.read_fields.ensures))) in
+    let all = read_long _ _ _ (search rules) (accepted read _ _ c.put_image.ensures (enough _ _ (omega arith) (omega arith) (as_fields _ _ c.read_fields.ensures c.in-Ok.is))) in
     record { value = all.0; image_after = all.1 }
 
 pub returns-in-Err : goal.returns-in-Err
 returns-in-Err c =
-    let all = read_long _ _ _ (search rules) (refusal read _ _ _ (c.put_refused-in-Err.ensures.value, c.put_refused-in-Err.ensures.out_after) (enough _ _ (omega arith) (omega arith) (ap refused c.from.ensures ∙ (rw c.in-Err.is at c.read_fields.ensures)))) in
+    let all = read_long _ _ _ (search rules) (refusal read _ _ _ (c.put_refused-in-Err.ensures.value, c.put_refused-in-Err.ensures.out_after) (enough _ _ (omega arith) (omega arith) (ap refused c.from.ensures ∙ as_fields _ _ c.read_fields.ensures c.in-Err.is))) in
     record { value = all.0; image_after = all.1 }
