@@ -44,15 +44,20 @@ unfolding before
 split row (all rest) rows q = (rest, refl, cc)
 split row (guilty place a) rows q = let y : ◌≡◌ {A = ℕ} 0 1 = cc in absurd (omega arith)
 
-module _ (zs s : List ℕ) (at : ℕ) (table : Table) (i : ℕ) (left : Left zs s at table i) where
+module _ (zs s : List ℕ) (at : ℕ) (table : Table) (i : ℕ) (left : Left zs s at table i) {n : ℕ} (long : length table ≡ n) where
   none_left : (rows : Table) → length rows ≡ 0 → take (length table) table ++ rows ≡ table
   none_left [] h = append-nil _ ∙ take_all (length table) table (omega arith)
   none_left (row ∷ rows) h = absurd (omega (arith, h))
 
-  pub fill_end : i ≡ length table → ies zs 0 s ≡ all table
-  fill_end h = rw h at left.done ∙ ap all (none_left left.rows (omega (arith, h, left.room)))
+  pub fill_end : n ≤ i → ies zs 0 s ≡ all table
+  fill_end h =
+      let e : i ≡ length table = omega (arith, h, long, left.room) in
+      rw e at left.done ∙ ap all (none_left left.rows (omega (arith, h, long, left.room)))
 
-  module _ (more : i < length table) where
+  module _ (turn : i < n) where
+    more : i < length table
+    more = omega (arith, turn, long)
+
     lt : at < length s
     lt = go (leb (length s) at) refl
       where
