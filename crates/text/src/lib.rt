@@ -85,7 +85,8 @@ fn sequence(text: &[u8], at: usize) -> Option<usize>
     Some(row.len())
 }
 
-// Where the whole sequences from a place on end: at the text's end, or at a bad one.
+// Where the whole sequences from a place on end: at the text's end, or at a bad one. Here and below the steps differ in length, so that no
+// `for` takes them; and a text and a place in it stay two parameters, since a struct of both would be taken apart in each loop.
 fn walk(text: &[u8], from: usize) -> usize
     requires { from ≤ length text.now }
     ensures { result ≡ from + good_len (drop from text.now) }
@@ -164,6 +165,7 @@ fn ascii_at(text: &[u8], at: usize, width: usize) -> bool
     requires { (at ≤ length text.now) × (width ≤ 32) }
     ensures { result ≡ true → Ascii text.now at (at + width) }
 {
+    // With `get` a block of ASCII would cost an instruction more.
     if text.len() < at + width {
         return false;
     }
@@ -188,10 +190,9 @@ fn ascii_rest(text: &[u8], from: usize) -> bool
     requires { from ≤ length text.now }
     ensures { result ≡ true → Passed text.now from (length text.now) }
 {
-    if text.len() < WORD {
+    let Some(at) = text.len().checked_sub(WORD) else {
         return false;
-    }
-    let at = text.len() - WORD;
+    };
     from >= at && ascii_at(text, at, WORD)
 }
 

@@ -16,24 +16,21 @@ impl Text {
     pub fn of(self, texts: &[u8]) -> &[u8]
         ensures { result.now ≡ bytes_of_text texts.now self }
     {
-        let place = self.place;
-        let len = self.len;
-        part(texts, place, len)
+        part(texts, self.place, self.len)
     }
 
     // Whether the slice has the text whole, and it is good UTF-8.
+    #[tactic(auto, unfolding(crate::specs::Texts::is_text))]
     pub fn is_good(self, texts: &[u8]) -> bool
         ensures { result ≡ is_text texts.now self }
     {
-        let place = self.place;
-        let len = self.len;
-        if texts.len() < place {
+        let Some(rest) = texts.get(self.place..) else {
             return false;
-        }
-        if texts.len() - place < len {
+        };
+        let Some(text) = rest.get(..self.len) else {
             return false;
-        }
-        text::well_formed(&texts[place..place + len]) == len
+        };
+        text::is_good(text)
     }
 }
 
@@ -41,11 +38,6 @@ impl Text {
 pub fn part(s: &[u8], place: usize, len: usize) -> &[u8]
     ensures { result.now ≡ take len (drop place s.now) }
 {
-    if s.len() <= place {
-        return &s[s.len()..];
-    }
-    if s.len() - place <= len {
-        return &s[place..];
-    }
-    &s[place..place + len]
+    let rest = &s[place.min(s.len())..];
+    &rest[..len.min(rest.len())]
 }
