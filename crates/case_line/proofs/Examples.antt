@@ -1,7 +1,7 @@
 -- Worked examples: what some lines print, computed. No contract cites this file.
 use mathlib.Core.Path.{◌≡◌, refl}
 use mathlib.Core.List.{[], ◌∷◌}
-use Rattle.octets.specs.Octets.{if_set, flag_byte, behind, big_endian_bytes, ipv4_of, ipv6_of, presence, bytes_if}
+use Rattle.octets.specs.Octets.{if_set, flag_byte, behind, big_endian_bytes, address_of, bytes_if}
 use Rattle.kind.specs.Layout.{walk, unless_broken, outcome}
 use Rattle.fseid.specs.Fseid.{meaning, wire, record_of, refused, found, read}
 use Rattle.hex_text.specs.Hex.{digit, spelled, worth, led, pairs, tens, decimal}
@@ -15,7 +15,7 @@ empty_payload = refl
 -- "S 000000000000000005fF": nine bytes with no address, and a tenth that isn't used, "0 9 000000000000000005"
 no_address : printed (0x53 ∷ 0x20 ∷ 0x30 ∷ 0x30 ∷ 0x30 ∷ 0x30 ∷ 0x30 ∷ 0x30 ∷ 0x30 ∷ 0x30 ∷ 0x30 ∷ 0x30 ∷ 0x30 ∷ 0x30 ∷ 0x30 ∷ 0x30 ∷ 0x30 ∷ 0x30 ∷ 0x30 ∷ 0x35 ∷ 0x66 ∷ 0x46 ∷ [])
     ≡ 0x30 ∷ 0x20 ∷ 0x39 ∷ 0x20 ∷ 0x30 ∷ 0x30 ∷ 0x30 ∷ 0x30 ∷ 0x30 ∷ 0x30 ∷ 0x30 ∷ 0x30 ∷ 0x30 ∷ 0x30 ∷ 0x30 ∷ 0x30 ∷ 0x30 ∷ 0x30 ∷ 0x30 ∷ 0x30 ∷ 0x30 ∷ 0x35 ∷ 0x0A ∷ []
-unfolding printed shown line_row payload all_pairs pairs led worth row_for row_of read found outcome unless_broken walk record_of meaning wire if_set flag_byte behind big_endian_bytes ipv4_of ipv6_of presence bytes_if decimal tens digit hex_or_dash spelled
+unfolding printed shown line_row payload all_pairs pairs led worth row_for row_of read found outcome unless_broken walk record_of meaning wire if_set flag_byte behind big_endian_bytes address_of bytes_if decimal tens digit hex_or_dash spelled
 no_address = refl
 
 -- "", "S", "S ", "S  00", "S 000", "s 00", "S 00" and a carriage return: other lines

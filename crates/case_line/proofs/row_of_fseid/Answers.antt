@@ -2,7 +2,8 @@
 use mathlib.Core.Path.{refl}
 use Rattle.octets.proofs.Laws.{bytes_each}
 use Rattle.kind.proofs.Laws.{length_clear}
-use Rattle.fseid.specs.declared.FseidRead.{FseidRead}
+use Rattle.answer.specs.declared.Read.{Read}
+use Rattle.fseid.specs.declared.Fseid.{Fseid}
 use Rattle.fseid.specs.Fseid.{meaning}
 use Rattle.fseid.proofs.OfKind.{kind}
 use Rattle.case_line.proofs.Laws.{redo_fixed}
@@ -10,5 +11,5 @@ use Rattle.case_line.proofs.row_of_fseid.Goals as goal
 
 pub returns : goal.returns
 returns c =
-    let payload = c.args.payload.now in redo_fixed kind (length_clear _) (λ (x : FseidRead). x.answer) (λ (x : FseidRead). x.used) (λ (x : FseidRead). meaning x.«record») payload _ _ _ _ _ _ c.unmarshal-read.ensures refl refl refl
+    let payload = c.args.payload.now in redo_fixed kind (length_clear _) (λ (x : Read Fseid). x.answer) (λ (x : Read Fseid). x.used) (λ (x : Read Fseid). meaning x.«record») payload _ _ _ _ _ _ c.unmarshal-read.ensures refl refl refl
     (bytes_each payload (λ i. (c.type_inv.payload i).fits)) c.requires c.marshal-written.ensures.value c.marshal-written.ensures.out_after c.row_of.ensures

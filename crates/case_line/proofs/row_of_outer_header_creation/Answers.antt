@@ -2,7 +2,8 @@
 use mathlib.Core.Path.{refl}
 use Rattle.octets.proofs.Laws.{bytes_each}
 use Rattle.kind.proofs.Laws.{length_clear}
-use Rattle.outer_header_creation.specs.declared.OuterHeaderCreationRead.{OuterHeaderCreationRead}
+use Rattle.answer.specs.declared.Read.{Read}
+use Rattle.outer_header_creation.specs.declared.OuterHeaderCreation.{OuterHeaderCreation}
 use Rattle.outer_header_creation.specs.OuterHeaderCreation.{meaning}
 use Rattle.outer_header_creation.proofs.OfKind.{kind}
 use Rattle.case_line.proofs.Laws.{redo_fixed}
@@ -10,5 +11,5 @@ use Rattle.case_line.proofs.row_of_outer_header_creation.Goals as goal
 
 pub returns : goal.returns
 returns c =
-    let payload = c.args.payload.now in redo_fixed kind (length_clear _) (λ (x : OuterHeaderCreationRead). x.answer) (λ (x : OuterHeaderCreationRead). x.used) (λ (x : OuterHeaderCreationRead). meaning x.«record») payload _ _ _ _ _ _ c.unmarshal-read.ensures refl refl refl
+    let payload = c.args.payload.now in redo_fixed kind (length_clear _) (λ (x : Read OuterHeaderCreation). x.answer) (λ (x : Read OuterHeaderCreation). x.used) (λ (x : Read OuterHeaderCreation). meaning x.«record») payload _ _ _ _ _ _ c.unmarshal-read.ensures refl refl refl
     (bytes_each payload (λ i. (c.type_inv.payload i).fits)) c.requires c.marshal-written.ensures.value c.marshal-written.ensures.out_after c.row_of.ensures

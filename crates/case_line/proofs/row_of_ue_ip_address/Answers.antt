@@ -2,7 +2,8 @@
 use mathlib.Core.Path.{refl}
 use Rattle.octets.proofs.Laws.{bytes_each}
 use Rattle.kind.proofs.Laws.{length_clear}
-use Rattle.ue_ip_address.specs.declared.UeIpAddressRead.{UeIpAddressRead}
+use Rattle.answer.specs.declared.Read.{Read}
+use Rattle.ue_ip_address.specs.declared.UeIpAddress.{UeIpAddress}
 use Rattle.ue_ip_address.specs.UeIpAddress.{meaning}
 use Rattle.ue_ip_address.proofs.OfKind.{kind}
 use Rattle.case_line.proofs.Laws.{redo_fixed}
@@ -10,5 +11,5 @@ use Rattle.case_line.proofs.row_of_ue_ip_address.Goals as goal
 
 pub returns : goal.returns
 returns c =
-    let payload = c.args.payload.now in redo_fixed kind (length_clear _) (λ (x : UeIpAddressRead). x.answer) (λ (x : UeIpAddressRead). x.used) (λ (x : UeIpAddressRead). meaning x.«record») payload _ _ _ _ _ _ c.unmarshal-read.ensures refl refl refl
+    let payload = c.args.payload.now in redo_fixed kind (length_clear _) (λ (x : Read UeIpAddress). x.answer) (λ (x : Read UeIpAddress). x.used) (λ (x : Read UeIpAddress). meaning x.«record») payload _ _ _ _ _ _ c.unmarshal-read.ensures refl refl refl
     (bytes_each payload (λ i. (c.type_inv.payload i).fits)) c.requires c.marshal-written.ensures.value c.marshal-written.ensures.out_after c.row_of.ensures
