@@ -53,11 +53,7 @@ fn number(out: &mut [u8], at: usize, width: usize, high: u64, low: u64) -> usize
     let mut bs = [0u8; 16];
     octets::put_number(&mut bs, 0, 8, high);
     octets::put_number(&mut bs, 8, 8, low);
-    digits(
-        out,
-        at,
-        texts::part(&bs, 16usize.saturating_sub(width), 16),
-    )
+    digits(out, at, texts::part(&bs, 16usize.saturating_sub(width), 16))
 }
 
 fn text(out: &mut [u8], at: usize, bs: &[u8]) -> usize

@@ -5,15 +5,17 @@ use mathlib.Core.Path.{◌≡◌, sym, ap, ◌∙◌}
 use mathlib.Core.List.{List}
 use lib.Dec.{eqb}
 use Rattle.octets.specs.Octets.{pick}
-use Rattle.rows.specs.Values.{count_value, hex_value}
+use Rattle.rows.specs.declared.Value.{Value}
+use Rattle.rows.specs.declared.Value.TheVariants.{Count}
+use Rattle.rows.specs.Values.{hex_value}
 use Rattle.details.specs.Refusals.{first_value}
 use Rattle.details.proofs.refusals.first_value.Goals as goal
 
-first : (number x : ℕ) (v : List ℕ) (e : Bool) → e ≡ (eqb number 2 || eqb number 3) → e ≡ true → v ≡ hex_value 1 0 (x % 256) → v ≡ first_value number x
-first number x v e h t q = q ∙ ap (λ (b : Bool). pick b (hex_value 1 0 (x % 256)) (count_value x)) (sym t ∙ h)
+first : (number x : ℕ) (v : Value) (e : Bool) → e ≡ (eqb number 2 || eqb number 3) → e ≡ true → v ≡ hex_value 1 (x % 256) → v ≡ first_value number x
+first number x v e h t q = q ∙ ap (λ (b : Bool). pick b (hex_value 1 (x % 256)) (Count x)) (sym t ∙ h)
 
-others : (number x : ℕ) (v : List ℕ) (e : Bool) → e ≡ (eqb number 2 || eqb number 3) → e ≡ false → v ≡ count_value x → v ≡ first_value number x
-others number x v e h t q = q ∙ ap (λ (b : Bool). pick b (hex_value 1 0 (x % 256)) (count_value x)) (sym t ∙ h)
+others : (number x : ℕ) (v : Value) (e : Bool) → e ≡ (eqb number 2 || eqb number 3) → e ≡ false → v ≡ Count x → v ≡ first_value number x
+others number x v e h t q = q ∙ ap (λ (b : Bool). pick b (hex_value 1 (x % 256)) (Count x)) (sym t ∙ h)
 
 pub returns-then-either : goal.returns-then-either
 returns-then-either c = search first
