@@ -1,6 +1,6 @@
 -- Words of a line, and what they say: keys, values, numbers, payloads.
 use Rattle.std.specs.Prelude.{ℕ, suc, ◌+◌, ◌-◌, ◌*◌, ◌^◌, Bool, true, false, ◌&&◌, List, [], ◌∷◌, ◌++◌, eqb, ltb, length, take, drop}
-use Rattle.std.specs.Prelude.{Option, None, Some}
+use Rattle.std.specs.Prelude.{Option, Some}
 use Rattle.slices.specs.Slices.{index_of}
 use Rattle.octets.specs.Octets.{pick, big_endian, presence}
 use Rattle.hex_text.specs.Hex.{within, pairs}

@@ -1,5 +1,5 @@
 -- `words::decimal` meets its contract.
-use Rattle.std.proofs.Common.{rules, sym, ◌∙◌, ◌≡◌, arith}
+use Rattle.std.proofs.Common.{rules, sym, ◌∙◌}
 use Rattle.words.proofs.Laws.{decimal_none, decimal_some, decimal_stop, decimal_fits, decimal_more, decimal_all}
 use Rattle.words.proofs.decimal.Goals as goal
 
