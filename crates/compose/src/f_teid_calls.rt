@@ -1,7 +1,8 @@
 // F-TEID: what a builder's line gives, whose words are its calls.
 use crate::numbers::Given;
 use crate::{fixed, keys, seen};
-use f_teid::{Fteid, FteidBuilder, FteidBuilt};
+use answer::Built;
+use f_teid::{Fteid, FteidBuilder};
 
 fn called(b: FteidBuilder, key: usize, given: Given) -> FteidBuilder {
     let ipv4 = fixed::to_ipv4(given.place);
@@ -35,7 +36,7 @@ fn builder_of(line: &[u8]) -> FteidBuilder {
     b
 }
 
-pub(crate) fn built(line: &[u8]) -> FteidBuilt {
+pub(crate) fn built(line: &[u8]) -> Built<Fteid> {
     let builder = builder_of(line);
     builder.build()
 }
