@@ -60,10 +60,10 @@ pub fn node_id(record: NodeId, places: bool) -> [Value; 2]
 fn place(x: Option<Text>, places: bool) -> Value
     ensures { result ≡ place_of x places }
 {
-    x.map_or(
-        Value::Nothing,
-        |text| rows::signed(places, b'@', text.place),
-    )
+    match x {
+        None => Value::Nothing,
+        Some(text) => rows::signed(places, b'@', text.place),
+    }
 }
 
 fn list(x: TextList) -> Value
