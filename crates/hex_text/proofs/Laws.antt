@@ -1,8 +1,10 @@
 -- Laws of hex and decimal text. No contract cites this file.
-use Prim.Native.Nat.{ℕ, zero, suc, ◌+◌, ◌-◌, ◌*◌, ◌/◌, ◌%◌, ◌^◌, ◌<◌, ◌≤◌, min}
+use Prim.Native.Nat.{ℕ, zero, suc, ◌+◌, ◌-◌, ◌*◌, ◌/◌, ◌%◌, ◌^◌, ◌<◌, ◌≤◌, min, max}
 use native.Mathlib.Nat.{zero-add, div-add-mod', pow-suc, div-lt_iff_lt-mul, not-suc-le-zero}
 use native.Mathlib.Numerals.{add-one}
 use native.Mathlib.Omega.{arith}
+use Rattle.std.proofs.lemmas.Nat.{le-div}
+use Rattle.std.proofs.Math.Nat.{one-le-pow}
 use mathlib.Core.Path.{◌≡◌, refl, sym, ap, ◌∙◌}
 use mathlib.Core.Bool.{Bool, true, false, ◌&&◌}
 use mathlib.Core.List.{List, [], ◌∷◌, ◌++◌, append-nil}
@@ -245,6 +247,23 @@ decimal_most (suc k) n h = go (leb 10 n) refl (decimal_most k (n / 10) ((div-lt_
     go : (t : Bool) → leb 10 n ≡ t → length (decimal (n / 10)) ≤ suc k → length (decimal n) ≤ suc (suc k)
     go true e f = omega (arith, length_last n (leb-true 10 n e))
     go false e f = omega (arith, length_one n (leb-false 10 n e))
+
+-- a number of 10 ^ k or more has more than k digits
+pub decimal_least : (k n : ℕ) → 10 ^ k ≤ n → suc k ≤ length (decimal n)
+decimal_least zero n h = decimal_some n
+decimal_least (suc k) n h =
+    let tenth : 10 ^ k ≤ n / 10 = le-div (10 ^ k) n 10 (lit< tt) (rw pow-suc at h) in
+    omega (arith, one-le-pow k 10 (lit< tt), length_last n (omega (arith, one-le-pow k 10 (lit< tt))), decimal_least k (n / 10) tenth)
+
+-- a number from 10 ^ k on, and below its tenfold, has one digit more than k; 0 has as many as 1
+pub length_power : (n m k : ℕ) → m ≡ max n 1 → 10 ^ k ≤ m → m < 10 * 10 ^ k → k + 1 ≡ length (decimal n)
+length_power n m k e p q = sym (go n e)
+  where
+    digits : length (decimal m) ≡ k + 1
+    digits = omega (arith, decimal_least k m p, decimal_most k m (rw (pow-suc 10 k) (omega arith)))
+    go : (n : ℕ) → m ≡ max n 1 → length (decimal n) ≡ k + 1
+    go zero e = length_one 0 (omega arith) ∙ sym (length_one m (omega arith)) ∙ digits
+    go (suc n) e = ap (λ (x : ℕ). length (decimal x)) (omega arith) ∙ digits
 
 -- the digits that are still to be written, where so many are: none, or all of a number's
 unfoldable pub still : ℕ → ℕ → List ℕ

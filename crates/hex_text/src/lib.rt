@@ -59,13 +59,7 @@ pub fn decimal_len(n: u64) -> usize
     ensures value { result ≡ length (decimal n) }
     ensures upper_bound { result ≤ 20 }
 {
-    let mut len = 1;
-    let mut rest = n;
-    while 10 <= rest {
-        len += 1;
-        rest /= 10;
-    }
-    len
+    n.max(1).ilog10() as usize + 1
 }
 
 // Puts a number at a place, in decimal.

@@ -63,6 +63,7 @@ fn read_behind<R: Input>(rt: &R, input: &mut [u8], pending: usize) -> io::Result
 }
 
 // Answers the lines that have an end, and returns where the first without one starts. There is none in the first `searched` bytes.
+// A walk from end to end: a `for` over parts would take the last one, which has no end, for a line, and search those bytes again.
 fn answer_ended<R: Print, F: FnMut(&[u8], &mut [u8]) -> usize>(
     rt: &R,
     input: &[u8],

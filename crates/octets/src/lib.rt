@@ -121,7 +121,8 @@ pub fn number_of<const W: usize>(bs: &[u8]) -> Option<u64>
     Some(number(bs))
 }
 
-// The same as a number of one, of two or of four bytes.
+// The same as a number of one, of two or of four bytes. A generic function over `TryFrom<u64>` could say its answer only through
+// `try_from_gives`, which each caller would have to open.
 pub fn u8_of(bs: &[u8]) -> Option<u8>
     ensures { result ≡ number_of 1 bs.now }
 {

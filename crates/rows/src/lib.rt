@@ -160,7 +160,8 @@ fn value_at(values: &[Value], i: usize) -> Value
     values.get(i).copied().unwrap_or(Value::Nothing)
 }
 
-// Puts a row at a place of the output, and returns the place behind it. Each `#` of the words stands for the next value.
+// Puts a row at a place of the output, and returns the place behind it. Each `#` of the words stands for the next value. Behind the last
+// part stands no value: a `for` over the parts would ask in each turn which one it has.
 pub fn put(out: &mut [u8], at: usize, words: &[u8], values: &[Value], slice: &[u8]) -> usize
     ensures value { result ≡ ends at (pieces words.now values.now slice.now) }
     ensures out_after { out.new ≡ puts out.old at (pieces words.now values.now slice.now) }

@@ -10,10 +10,9 @@ pub fn copy(src: &[u8], dst: &mut [u8])
     ensures len { length dst.new ≡ length dst.old }
     ensures after { dst.new ≡ take (length src.now) src.now ++ drop (length src.now) dst.old }
 {
-    let mut i = 0;
-    while i < src.len() {
+    // Byte by byte, so that the archive calls no function of the C library.
+    for i in 0..src.len() {
         dst[i] = src[i];
-        i += 1;
     }
 }
 
@@ -23,12 +22,10 @@ pub fn find(s: &[u8], from: usize, to: usize, b: u8) -> usize
     ensures value { result ≡ from + index_of b (slice from to s.now) }
     ensures within { (from ≤ result) × (result ≤ to) }
 {
-    let mut at = from;
-    while at < to {
+    for at in from..to {
         if s[at] == b {
             return at;
         }
-        at += 1;
     }
-    at
+    to
 }

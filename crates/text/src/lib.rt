@@ -107,6 +107,7 @@ fn agrees(row: &[Bytes], text: &[u8]) -> bool
 }
 
 // The length of the sequence that `four` begins with, where there is a whole one. The rows of many first bytes come before those of one.
+// Tried as a loop over the rows' numbers: the proof that a row is the table's of that number didn't close.
 fn whole(four: &[u8]) -> Option<usize>
     requires { length four.now ≡ 4 }
     ensures { IfSome result (λ n. (0 < n) × (n ≤ 4) × (n ≡ seq_len rows four.now)) }
@@ -172,7 +173,7 @@ fn ascii_at(text: &[u8], at: usize, width: usize) -> bool
     text[at..at + width].iter().fold(0, |bits, b| bits | *b) < 0x80
 }
 
-// Passes blocks of ASCII.
+// Passes blocks of ASCII. A `for` over `chunks_exact` would keep the same place beside each block.
 fn ascii_end(text: &[u8], from: usize, width: usize) -> usize
     requires from_in_bounds { from ≤ length text.now }
     requires width_nonzero { (0 < width) × (width ≤ 32) }

@@ -5,10 +5,12 @@ use native.Mathlib.Omega.{arith}
 use mathlib.Core.Path.{◌≡◌, refl, sym, ap, ap₂, ◌∙◌}
 use mathlib.Core.Bool.{Bool, true, false, not, ◌&&◌, and-false}
 use mathlib.Core.List.{List, [], ◌∷◌, ◌++◌, append-nil}
-use Rattle.std.specs.Prelude.{Option, None, Some, SomeIff, option_map}
+use Rattle.std.specs.Prelude.{Option, None, Some, SomeIff, option_map, cond, take_while}
+use Rattle.std.specs.List.{onto_first, slice_split}
+use Rattle.std.proofs.lemmas.List.Sums.{take_while-cons}
 use lib.Dec.{eqb, leb, ltb}
 use lib.ListN.{length, take, drop, get_or, replicate, length-drop, drop_of_length-le}
-use lib.Seq.{take_all, take-length, drop-drop, drop-cons, append_snoc}
+use lib.Seq.{take_all, take-length, drop-cons, append_snoc}
 use borrow.Author.Tests.{lt-ltb, le-ltb, ltb-true, ltb-false, le-leb, eq-eqb, ne_eqb, eqb-true, eqb-false, not-true, not-false}
 use Rattle.slices.specs.Slices.{slice, index_after, index_of}
 use Rattle.octets.specs.Octets.{pick, field, big_endian, presence, put}
@@ -87,43 +89,50 @@ first_word line p end found most part =
     let k : index_of 0x20 line ≡ end - 0 = found_at 0x20 line 0 end found in
     part ∙ sym (rw (words_start line (omega arith), k))
 
--- a turn of the search for a word
-module _ (list word p : List ℕ) (at end count n : ℕ) (b : Bool) (found : end ≡ at + index_of 0x20 (slice at (length list) list)) (most : end ≤ length list)
-    (part : p ≡ field list at (end - at)) (test : (b ≡ true → p ≡ word) × (p ≡ word → b ≡ true)) (start : at ≤ length list)
-    (left : count + place_of word (words_of (drop at list)) ≡ n) where
-  k : index_of 0x20 (drop at list) ≡ end - at
-  k = found_at 0x20 list at end found
+-- the words are the parts between spaces
+module _ (w : List ℕ) where
+  abbrev onto : List (List ℕ) → List (List ℕ)
+  onto [] = w ∷ []
+  onto (part ∷ parts) = (w ++ part) ∷ parts
 
-  first : take (index_of 0x20 (drop at list)) (drop at list) ≡ p
-  first = rw k (sym part)
+onto_none : (p : ℕ → Bool) (s : List ℕ) → onto [] (slice_split p s) ≡ slice_split p s
+onto_none p [] = refl
+onto_none p (c ∷ s) = go (p c) (slice_split p s)
+  where
+    go : (t : Bool) (parts : List (List ℕ)) → onto [] (cond t ([] ∷ parts) (onto_first c parts)) ≡ cond t ([] ∷ parts) (onto_first c parts)
+    go true parts = refl
+    go false [] = refl
+    go false (part ∷ parts) = refl
 
-  pub place_here : b ≡ true → count ≡ n
-  unfolding place_of
-  place_here h =
-      let word-here : words_of (drop at list) ≡ p ∷ drop 1 (words_of (drop at list)) =
-      words_start (drop at list) (omega (arith, k, length-drop at list)) ∙ ap (λ (l : List ℕ). l ∷ drop 1 (words_of (drop at list))) first in
-      let None : place_of word (words_of (drop at list)) ≡ 0 = rw (word-here, ← told p word b test, h) in
-      omega (arith, left, None)
+onto_more : (w : List ℕ) (c : ℕ) (parts : List (List ℕ)) → onto (w ++ (c ∷ [])) parts ≡ onto w (onto_first c parts)
+onto_more w c [] = refl
+onto_more w c (part ∷ parts) = ap (λ (l : List ℕ). l ∷ parts) (append_snoc w c part)
 
-  pub place_last : b ≡ false → end ≡ length list → count + 1 ≡ n
-  unfolding place_of
-  place_last h e =
-      let one : words_of (drop at list) ≡ p ∷ [] =
-      cut_last [] (drop at list) (omega (arith, k, length-drop at list))
-      ∙ ap (λ (l : List ℕ). l ∷ []) (sym (take_all (index_of 0x20 (drop at list)) (drop at list) (omega (arith, k, length-drop at list))) ∙ first) in
-      let None : place_of word (words_of (drop at list)) ≡ 1 = rw (one, ← told p word b test, h) in
-      omega (arith, left, None)
+cut_parts : (w s : List ℕ) → cut w s ≡ onto w (slice_split (λ (c : ℕ). eqb c 0x20) s)
+unfolding cut
+cut_parts w [] = ap (λ (l : List ℕ). l ∷ []) (sym (append-nil w))
+cut_parts w (c ∷ s) =
+    go (eqb c 0x20) (slice_split (λ (c : ℕ). eqb c 0x20) s) (cut_parts [] s ∙ onto_none (λ (c : ℕ). eqb c 0x20) s) (cut_parts (w ++ (c ∷ [])) s)
+  where
+    go : (t : Bool) (parts : List (List ℕ)) → cut [] s ≡ parts → cut (w ++ (c ∷ [])) s ≡ onto (w ++ (c ∷ [])) parts
+        → pick t (w ∷ cut [] s) (cut (w ++ (c ∷ [])) s) ≡ onto w (cond t ([] ∷ parts) (onto_first c parts))
+    go true parts e f = ap₂ (λ (l : List ℕ) (ps : List (List ℕ)). l ∷ ps) (sym (append-nil w)) e
+    go false parts e f = f ∙ onto_more w c parts
 
-  pub place_more : b ≡ false → (end ≡ length list → ⊥) → count + 1 + place_of word (words_of (drop (end + 1) list)) ≡ n
-  unfolding place_of
-  place_more h e =
-      let place : at + suc (end - at) ≡ end + 1 = omega (arith, k, found) in
-      let rest : drop (suc (index_of 0x20 (drop at list))) (drop at list) ≡ drop (end + 1) list =
-      rw k (drop-drop (suc (end - at)) at list ∙ ap (λ (j : ℕ). drop j list) place) in
-      let two : words_of (drop at list) ≡ p ∷ words_of (drop (end + 1) list) =
-      cut_more [] (drop at list) (omega (arith, k, length-drop at list)) ∙ rw (first, rest) in
-      let more : place_of word (words_of (drop at list)) ≡ suc (place_of word (words_of (drop (end + 1) list))) = rw (two, ← told p word b test, h) in
-      omega (arith, left, more)
+place_count : (word : List ℕ) (l : List (List ℕ)) → length (take_while (λ (w : List ℕ). not (same w word)) l) ≡ place_of word l
+unfolding place_of
+place_count word [] = refl
+place_count word (w ∷ l) = ap length (take_while-cons (λ (w : List ℕ). not (same w word)) w l) ∙ go (same w word) (place_count word l)
+  where
+    go : (t : Bool) → length (take_while (λ (w : List ℕ). not (same w word)) l) ≡ place_of word l
+        → length (cond (not t) (w ∷ take_while (λ (w : List ℕ). not (same w word)) l) []) ≡ pick t 0 (suc (place_of word l))
+    go true e = refl
+    go false e = ap suc e
+
+-- how many words stand before a word
+pub place_split : (word list : List ℕ) (n : ℕ) → n ≡ length (take_while (λ (w : List ℕ). not (same w word)) (slice_split (λ (c : ℕ). eqb c 0x20) list)) → n ≡ place_of word (words_of list)
+place_split word list n e =
+    e ∙ place_count word (slice_split (λ (c : ℕ). eqb c 0x20) list) ∙ ap (place_of word) (sym (cut_parts [] list ∙ onto_none (λ (c : ℕ). eqb c 0x20) list))
 
 -- ---- the sign behind a key
 pub sign_found : (word : List ℕ) (f : ℕ) → f ≡ 0 + index_of 0x3D (slice 0 (length word) word) → f + 1 ≡ suc (index_of 0x3D word)

@@ -1,11 +1,11 @@
 // Words of a line, and what they say: keys, values, numbers, payloads.
 #![tactic(auto)]
 
-ghost use Rattle.std.specs.Prelude.{◌≡◌, [], suc, ◌-◌, ◌*◌, eqb, length, get_or, option_map};
+ghost use Rattle.std.specs.Prelude.{◌≡◌, [], suc, ◌-◌, ◌*◌, not, eqb, length, get_or, option_map};
 ghost use Rattle.slices.specs.Slices.{index_of};
 ghost use Rattle.octets.specs.Octets.{field, put};
 ghost use Rattle.hex_text.specs.Hex.{pairs};
-ghost use Rattle.words.specs.Words.{words_of, place_of, key_of, value_of, decimal_of, hexadecimal_of, payload_of};
+ghost use Rattle.words.specs.Words.{words_of, same, place_of, key_of, value_of, decimal_of, hexadecimal_of, payload_of};
 ghost use Rattle.words.specs.Steps.{with_digit};
 
 use octets::both;
@@ -17,23 +17,20 @@ pub fn part(s: &[u8], from: usize, to: usize) -> &[u8]
     texts::part(s, from, to.saturating_sub(from))
 }
 
+// Whether a word isn't another.
+fn differs(word: &[u8], other: &[u8]) -> bool
+    ensures { result ≡ not (same word.now other.now) }
+{
+    !check::same(word, other)
+}
+
 // The place of a word in a list of words; how many these are where it isn't there.
 pub fn index(list: &[u8], word: &[u8]) -> usize
     ensures { result ≡ place_of word.now (words_of list.now) }
 {
-    let mut count = 0;
-    let mut at = 0;
-    loop {
-        let end = slices::find(list, at, list.len(), b' ');
-        if check::same(part(list, at, end), word) {
-            return count;
-        }
-        count += 1;
-        if end == list.len() {
-            return count;
-        }
-        at = end + 1;
-    }
+    list.split(|b| *b == b' ')
+        .take_while(|other| differs(other, word))
+        .count()
 }
 
 // The first word of a line.

@@ -8,8 +8,7 @@ returns-then-s-at-clause-value c =
 
 pub loop-at-preserved : goal.loop-at-preserved
 loop-at-preserved c =
-    let step = index_next c.args.b c.loop-at.at c.args.to c.args.s.now (omega arith) (omega arith) c.if-s-at.false in
-    (omega arith, omega arith, omega arith)
+    omega (arith, index_next c.args.b c.loop-at.at c.args.to c.args.s.now (omega arith) (omega arith) c.if-s-at.false)
 
 pub returns-clause-value : goal.returns-clause-value
 returns-clause-value c = omega (arith, index_none c.args.b c.loop-at.at c.args.to c.args.s.now (omega arith) (omega arith))

@@ -1,28 +1,17 @@
--- `words::index` meets its contract. The invariant: so many words were passed, and the word's place among the others is what is left. No
--- more are passed than bytes. The measure is what is left of the list.
-use native.Mathlib.Omega.{arith}
-use Rattle.words.proofs.Laws.{place_here, place_last, place_more}
+-- `words::index` meets its contract: it counts the parts before the word.
+use Rattle.std.proofs.Common.{rules, tests, ap, ◌∙◌, eqb, not, ℕ, List}
+use Rattle.std.proofs.lemmas.Iterator.Consumers.{count_from_yields_List}
+use Rattle.std.proofs.lemmas.Iterator.Search.{YieldsList-from_take_while}
+use Rattle.std.proofs.lemmas.Iterator.Splits.{YieldsList-from_slice_split}
+use Rattle.std.specs.Slice.Iter.{split_rest, split_done, split_callee}
+use Rattle.words.specs.Words.{same}
+use Rattle.words.proofs.Laws.{place_split}
 use Rattle.words.proofs.index.Goals as goal
 
-pub loop-count-init : goal.loop-count-init
-loop-count-init c = (omega arith, (omega arith, omega arith))
-
-pub returns-then-same : goal.returns-then-same
-returns-then-same c =
-    let l = c.loop-count in
-    place_here _ _ _ l.at _ _ _ _ c.find-end.ensures.value c.find-end.ensures.within.1 c.part.ensures c.same.ensures l.invariant.0 l.invariant.1.1 c.if-same.true
-
-pub returns-then-end-list : goal.returns-then-end-list
-returns-then-end-list c =
-    let l = c.loop-count in
-    place_last _ _ _ l.at _ _ _ _ c.find-end.ensures.value c.find-end.ensures.within.1 c.part.ensures c.same.ensures l.invariant.0 l.invariant.1.1 c.if-same.false c.if-end-list.true
-
-pub loop-count-preserved : goal.loop-count-preserved
-loop-count-preserved c =
-    let l = c.loop-count in (
-      omega arith,
-      (
-        omega arith,
-        place_more _ _ _ l.at _ _ _ _ c.find-end.ensures.value c.find-end.ensures.within.1 c.part.ensures c.same.ensures l.invariant.0 l.invariant.1.1 c.if-same.false c.if-end-list.false,
-      ),
-    )
+pub returns : goal.returns
+returns c =
+    let source = c.take_while.ensures.source in
+    place_split _ _ _ (count_from_yields_List _ _ c.count.ensures.ran
+    (YieldsList-from_take_while _ (λ (w : List ℕ). not (same w c.args.word.now))
+    (YieldsList-from_slice_split _ (λ (b : ℕ). eqb b 0x20) c.args.list.now (ap split_rest source ∙ c.split.ensures.rest) (ap split_done source ∙ c.split.ensures.done) (ap split_callee source ∙ c.split.ensures.closure) (λ x r q k. search (rules, tests)))
+    c.take_while.ensures.closure c.take_while.ensures.done (λ x r q k. search (rules, tests))))
