@@ -1,7 +1,7 @@
 // The Node ID in a record image.
 #![tactic(auto)]
 
-ghost use Rattle.std.specs.Prelude.{◌≡◌, ◌≤◌, ◌<◌, length, ◌++◌};
+ghost use Rattle.std.specs.Prelude.{◌≡◌, ◌++◌};
 ghost use Rattle.answer.specs.declared.Answer.TheVariants.{Done, Short};
 ghost use Rattle.answer.specs.Paper.{number_of};
 ghost use Rattle.octets.specs.Octets.{put};
@@ -10,6 +10,7 @@ ghost use Rattle.node_id.specs.NodeId.{refused, read_fqdn, read};
 ghost use Rattle.node_id_image.specs.NodeIdImage.{size, fields_of, record_of, record_image, image_of, record_at, writes, stores};
 
 use answer::{Answer, Written};
+use kind::Payload;
 use node_id::NodeId;
 use texts::Text;
 
@@ -129,13 +130,12 @@ fn put_short(out: &mut [u8], field: u8, expected: usize, actual: usize) -> u64
 
 // Reads a payload of type 2 into an image: all behind the type is the name. Only here is a function called, and a stack frame
 // needed.
-fn read_name(payload: &[u8], image: &mut [u8]) -> u64
-    requires payload_nonzero { 0 < length payload.now }
-    ensures value { result ≡ number_of (read_fqdn payload.now).answer }
-    ensures image_after { image.new ≡ put image.old 0 (image_of (read_fqdn payload.now)) }
+fn read_name(payload: Payload<1>, image: &mut [u8]) -> u64
+    ensures value { result ≡ number_of (read_fqdn payload.entry.bytes.now).answer }
+    ensures image_after { image.new ≡ put image.old 0 (image_of (read_fqdn payload.entry.bytes.now)) }
 {
-    let n = payload.len();
-    let name = &payload[1..];
+    let n = payload.bytes.len();
+    let name = &payload.bytes[1..];
     let good = text::well_formed(name);
     if good != name.len() {
         let place = 1 + good;
@@ -146,20 +146,19 @@ fn read_name(payload: &[u8], image: &mut [u8]) -> u64
 }
 
 // Reads a payload that has its type.
-fn read_typed(payload: &[u8], image: &mut [u8]) -> u64
-    requires payload_nonzero { 0 < length payload.now }
-    requires payload_len_bound { length payload.now ≤ 65535 }
-    ensures value { result ≡ number_of (read payload.now).answer }
-    ensures image_after { image.new ≡ put image.old 0 (image_of (read payload.now)) }
+fn read_typed(payload: Payload<1>, image: &mut [u8]) -> u64
+    ensures value { result ≡ number_of (read payload.entry.bytes.now).answer }
+    ensures image_after { image.new ≡ put image.old 0 (image_of (read payload.entry.bytes.now)) }
 {
-    match payload[0] {
-        0 => match octets::address(texts::part(payload, 1, 4)) {
+    let bytes = payload.bytes;
+    match bytes[0] {
+        0 => match octets::address(texts::part(bytes, 1, 4)) {
             Some(address) => put_image(image, 5, NodeId::Ipv4(address)),
-            None => put_short(image, 1, 5, payload.len()),
+            None => put_short(image, 1, 5, bytes.len()),
         },
-        1 => match octets::address(texts::part(payload, 1, 16)) {
+        1 => match octets::address(texts::part(bytes, 1, 16)) {
             Some(address) => put_image(image, 17, NodeId::Ipv6(address)),
-            None => put_short(image, 2, 17, payload.len()),
+            None => put_short(image, 2, 17, bytes.len()),
         },
         2 => read_name(payload, image),
         byte => put_refused(image, Answer::NodeType { byte }),
@@ -195,7 +194,7 @@ pub fn read(payload: &[u8], image: &mut [u8]) -> u64
     if n < 1 {
         return put_short(image, 0, 1, n);
     }
-    read_typed(payload, image)
+    read_typed(Payload { bytes: payload }, image)
 }
 
 pub fn write(image: &[u8], texts: &[u8], out: &mut [u8], report: &mut [u8]) -> u64
