@@ -203,6 +203,8 @@ pub fn read(payload: &[u8], image: &mut [u8]) -> u64
     read_concrete(payload, image, false, false)
 }
 
+// F-SEID's is written alike. One function for both would be no plainer: for one test and one call it would take the size, three slices
+// and a closure, ask that this can be called, and say by its `post` what each kind would then have to prove as here.
 pub fn write(image: &[u8], out: &mut [u8], report: &mut [u8]) -> u64
     ensures value { result ≡ write_number (long_enough size image.now report.old) (writes image.now out.old) }
     ensures out_after { out.new ≡ write_output (long_enough size image.now report.old) (stores image.now out.old) out.old }

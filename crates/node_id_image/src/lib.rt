@@ -197,6 +197,7 @@ pub fn read(payload: &[u8], image: &mut [u8]) -> u64
     read_typed(Payload { bytes: payload }, image)
 }
 
+// PFD Contents' is written alike; f_teid_image says why there is no function for both.
 pub fn write(image: &[u8], texts: &[u8], out: &mut [u8], report: &mut [u8]) -> u64
     ensures value { result ≡ write_number (long_enough size image.now report.old) (writes image.now texts.now out.old) }
     ensures out_after { out.new ≡ write_output (long_enough size image.now report.old) (stores image.now texts.now out.old) out.old }

@@ -34,7 +34,6 @@ const IPV4: usize = STAG + 8;
 
 const IPV6: usize = IPV4 + 4;
 
-// That lent bytes are as many stands in the contracts below: an array of `SIZE` bytes would become a slice again for each put.
 pub const SIZE: usize = IPV6 + 16;
 
 // Puts the image of a read that is done, by the byte of its flags, from the back to the front. The test tells the compiler
