@@ -1,13 +1,14 @@
 // The F-TEID payload: a tunnel endpoint identifier with its addresses, or a request to choose them; and its builder.
 #![tactic(auto)]
 
-ghost use Rattle.std.specs.Prelude.{◌≡◌, true, false, ◌≤◌, ◌<◌, length, get_or};
+ghost use Rattle.std.specs.Prelude.{◌≡◌, true, false, length, get_or};
 ghost use Rattle.octets.specs.Octets.{bit, put};
 ghost use Rattle.answer.specs.Paper.{written};
 ghost use Rattle.f_teid.specs.Fteid.{meaning, wire, max_len, read, refused, empty, made, made_with_choose, of_choice};
 ghost use Rattle.f_teid.specs.Builder.{fresh, with_teid, with_addresses, with_choices, with_choose_id, broken, built};
 
 use answer::{Answer, Built, Read, Written};
+use kind::Payload;
 use types::Teid;
 
 #[derive(Clone, Copy)]
@@ -53,14 +54,13 @@ fn refused(answer: Answer) -> Read<Fteid>
 }
 
 // Reads a payload with CH: the choose ID at most, since the TEID and the addresses are still to be chosen.
-fn read_chosen(payload: &[u8]) -> Read<Fteid>
-    requires payload_nonzero { 0 < length payload.now }
-    requires payload_len_bound { length payload.now ≤ 65535 }
-    requires ch_set { bit 2 (get_or payload.now 0 0) ≡ true }
-    ensures { result ≡ read payload.now }
+fn read_chosen(payload: Payload<1>) -> Read<Fteid>
+    requires { bit 2 (get_or payload.bytes.now 0 0) ≡ true }
+    ensures { result ≡ read payload.entry.bytes.now }
 {
-    let n = payload.len();
-    let flags = payload[0];
+    let bytes = payload.bytes;
+    let n = bytes.len();
+    let flags = bytes[0];
     let v4 = octets::bit(flags, 0);
     let v6 = octets::bit(flags, 1);
     let chid = octets::bit(flags, 3);
@@ -72,7 +72,7 @@ fn read_chosen(payload: &[u8]) -> Read<Fteid>
             actual: n,
         });
     }
-    let choose_id = octets::number(&payload[1..end]) as u8;
+    let choose_id = octets::number(&bytes[1..end]) as u8;
     Read {
         answer: Answer::Done,
         used: end,
@@ -92,14 +92,13 @@ fn read_chosen(payload: &[u8]) -> Read<Fteid>
 // Reads a payload without CH and CHID: the TEID, and the addresses under their flags.
 // F-SEID's addresses are read alike. One function for both would be no plainer: for two tests and two calls it would take a place and
 // both flags, and hand back both addresses with their end, or a refusal.
-fn read_concrete(payload: &[u8]) -> Read<Fteid>
-    requires payload_nonzero { 0 < length payload.now }
-    requires payload_len_bound { length payload.now ≤ 65535 }
-    requires no_ch { bit 2 (get_or payload.now 0 0) ≡ false }
-    requires no_chid { bit 3 (get_or payload.now 0 0) ≡ false }
-    ensures { result ≡ read payload.now }
+fn read_concrete(payload: Payload<1>) -> Read<Fteid>
+    requires no_ch { bit 2 (get_or payload.bytes.now 0 0) ≡ false }
+    requires no_chid { bit 3 (get_or payload.bytes.now 0 0) ≡ false }
+    ensures { result ≡ read payload.entry.bytes.now }
 {
-    let n = payload.len();
+    let bytes = payload.bytes;
+    let n = bytes.len();
     if n < TEID_END {
         return refused(Answer::Short {
             field: 0,
@@ -107,7 +106,7 @@ fn read_concrete(payload: &[u8]) -> Read<Fteid>
             actual: n,
         });
     }
-    let flags = payload[0];
+    let flags = bytes[0];
     let v4 = octets::bit(flags, 0);
     let v6 = octets::bit(flags, 1);
     let end4 = TEID_END + octets::if_set(v4, 4);
@@ -126,9 +125,9 @@ fn read_concrete(payload: &[u8]) -> Read<Fteid>
             actual: n,
         });
     }
-    let teid = octets::number(&payload[1..TEID_END]) as u32;
-    let ipv4_address = octets::address(&payload[TEID_END..end4]);
-    let ipv6_address = octets::address(&payload[end4..end6]);
+    let teid = octets::number(&bytes[1..TEID_END]) as u32;
+    let ipv4_address = octets::address(&bytes[TEID_END..end4]);
+    let ipv6_address = octets::address(&bytes[end4..end6]);
     Read {
         answer: Answer::Done,
         used: end6,
@@ -273,6 +272,7 @@ impl Fteid {
             });
         }
         let flags = payload[0];
+        let payload = Payload { bytes: payload };
         if octets::bit(flags, 2) {
             return read_chosen(payload);
         }

@@ -1,7 +1,7 @@
 // The F-TEID in a record image.
 #![tactic(auto)]
 
-ghost use Rattle.std.specs.Prelude.{◌≡◌, true, false, ◌≤◌, ◌<◌, length, get_or, ◌++◌};
+ghost use Rattle.std.specs.Prelude.{◌≡◌, true, false, get_or, ◌++◌};
 ghost use Rattle.answer.specs.declared.Answer.TheVariants.{Done};
 ghost use Rattle.answer.specs.Paper.{number_of};
 ghost use Rattle.octets.specs.Octets.{bit, put};
@@ -11,6 +11,7 @@ ghost use Rattle.f_teid_image.specs.FteidImage.{size, record_image, image_of, re
 
 use answer::Answer;
 use f_teid::Fteid;
+use kind::Payload;
 use types::Teid;
 
 // Where each field of an image stands, and how long an image is.
@@ -72,23 +73,22 @@ fn put_image(out: &mut [u8], used: usize, record: Fteid)
 // passed on as a constant, so that the compiler knows the places and the widths.
 
 // Reads a payload with CH into an image, by whether CHID is set.
-fn read_chosen(payload: &[u8], image: &mut [u8], chid: bool) -> u64
-    requires payload_nonzero { 0 < length payload.now }
-    requires payload_len_bound { length payload.now ≤ 65535 }
-    requires ch_set { bit 2 (get_or payload.now 0 0) ≡ true }
-    requires chid_value { chid ≡ bit 3 (get_or payload.now 0 0) }
-    ensures value { result ≡ number_of (read payload.now).answer }
-    ensures image_after { image.new ≡ put image.old 0 (image_of (read payload.now)) }
+fn read_chosen(payload: Payload<1>, image: &mut [u8], chid: bool) -> u64
+    requires ch_set { bit 2 (get_or payload.bytes.now 0 0) ≡ true }
+    requires chid_of_flags { chid ≡ bit 3 (get_or payload.bytes.now 0 0) }
+    ensures value { result ≡ number_of (read payload.entry.bytes.now).answer }
+    ensures image_after { image.new ≡ put image.old 0 (image_of (read payload.entry.bytes.now)) }
 {
-    let n = payload.len();
-    let flags = payload[0];
+    let bytes = payload.bytes;
+    let n = bytes.len();
+    let flags = bytes[0];
     let end = 1 + octets::if_set(chid, 1);
     if n < end {
         return image::put_short(image, SIZE, 5, end, n);
     }
     let v4 = octets::bit(flags, 0);
     let v6 = octets::bit(flags, 1);
-    let choose_id = octets::number(&payload[1..end]) as u8;
+    let choose_id = octets::number(&bytes[1..end]) as u8;
     let record = Fteid {
         v4,
         v6,
@@ -104,17 +104,16 @@ fn read_chosen(payload: &[u8], image: &mut [u8], chid: bool) -> u64
 }
 
 // Reads a payload without CH and CHID that has its TEID into an image, by V4 and V6.
-fn read_concrete(payload: &[u8], image: &mut [u8], v4: bool, v6: bool) -> u64
-    requires in_bounds { 5 ≤ length payload.now }
-    requires payload_len_bound { length payload.now ≤ 65535 }
-    requires no_ch { bit 2 (get_or payload.now 0 0) ≡ false }
-    requires no_chid { bit 3 (get_or payload.now 0 0) ≡ false }
-    requires v4_value { v4 ≡ bit 0 (get_or payload.now 0 0) }
-    requires v6_value { v6 ≡ bit 1 (get_or payload.now 0 0) }
-    ensures value { result ≡ number_of (read payload.now).answer }
-    ensures image_after { image.new ≡ put image.old 0 (image_of (read payload.now)) }
+fn read_concrete(payload: Payload<5>, image: &mut [u8], v4: bool, v6: bool) -> u64
+    requires no_ch { bit 2 (get_or payload.bytes.now 0 0) ≡ false }
+    requires no_chid { bit 3 (get_or payload.bytes.now 0 0) ≡ false }
+    requires v4_of_flags { v4 ≡ bit 0 (get_or payload.bytes.now 0 0) }
+    requires v6_of_flags { v6 ≡ bit 1 (get_or payload.bytes.now 0 0) }
+    ensures value { result ≡ number_of (read payload.entry.bytes.now).answer }
+    ensures image_after { image.new ≡ put image.old 0 (image_of (read payload.entry.bytes.now)) }
 {
-    let n = payload.len();
+    let bytes = payload.bytes;
+    let n = bytes.len();
     let end4 = TEID_END + octets::if_set(v4, 4);
     if n < end4 {
         return image::put_short(image, SIZE, 1, end4, n);
@@ -123,9 +122,9 @@ fn read_concrete(payload: &[u8], image: &mut [u8], v4: bool, v6: bool) -> u64
     if n < end6 {
         return image::put_short(image, SIZE, 2, end6, n);
     }
-    let teid = octets::number(&payload[1..TEID_END]) as u32;
-    let ipv4_address = image::address_at(payload, TEID_END, v4);
-    let ipv6_address = image::address_at(payload, end4, v6);
+    let teid = octets::number(&bytes[1..TEID_END]) as u32;
+    let ipv4_address = image::address_at(bytes, TEID_END, v4);
+    let ipv6_address = image::address_at(bytes, end4, v6);
     let record = Fteid {
         v4,
         v6,
@@ -178,6 +177,7 @@ pub fn read(payload: &[u8], image: &mut [u8]) -> u64
     let flags = payload[0];
     let chid = octets::bit(flags, 3);
     if octets::bit(flags, 2) {
+        let payload = Payload { bytes: payload };
         if chid {
             return read_chosen(payload, image, true);
         }
@@ -189,6 +189,7 @@ pub fn read(payload: &[u8], image: &mut [u8]) -> u64
     if n < TEID_END {
         return image::put_short(image, SIZE, 0, TEID_END, n);
     }
+    let payload = Payload { bytes: payload };
     let v6 = octets::bit(flags, 1);
     if octets::bit(flags, 0) {
         if v6 {
@@ -202,6 +203,8 @@ pub fn read(payload: &[u8], image: &mut [u8]) -> u64
     read_concrete(payload, image, false, false)
 }
 
+// F-SEID's is written alike. One function for both would be no plainer: for one test and one call it would take the size, three slices
+// and a closure, ask that this can be called, and say by its `post` what each kind would then have to prove as here.
 pub fn write(image: &[u8], out: &mut [u8], report: &mut [u8]) -> u64
     ensures value { result ≡ write_number (long_enough size image.now report.old) (writes image.now out.old) }
     ensures out_after { out.new ≡ write_output (long_enough size image.now report.old) (stores image.now out.old) out.old }

@@ -1,7 +1,7 @@
 // The F-SEID in a record image.
 #![tactic(auto)]
 
-ghost use Rattle.std.specs.Prelude.{◌≡◌, ◌≤◌, length, get_or, ◌++◌};
+ghost use Rattle.std.specs.Prelude.{◌≡◌, get_or, ◌++◌};
 ghost use Rattle.answer.specs.declared.Answer.TheVariants.{Done};
 ghost use Rattle.answer.specs.Paper.{number_of};
 ghost use Rattle.octets.specs.Octets.{bit, put};
@@ -11,6 +11,7 @@ ghost use Rattle.fseid_image.specs.FseidImage.{size, record_image, image_of, rec
 
 use answer::Answer;
 use fseid::Fseid;
+use kind::Payload;
 use types::Seid;
 
 // Where each field of an image stands, and how long an image is.
@@ -59,15 +60,14 @@ fn put_image(out: &mut [u8], used: usize, record: Fseid)
 // that the compiler knows the places and the widths.
 
 // Reads a payload that has its flags and its SEID into an image, by V4 and V6.
-fn read_concrete(payload: &[u8], image: &mut [u8], v4: bool, v6: bool) -> u64
-    requires in_bounds { 9 ≤ length payload.now }
-    requires payload_len_bound { length payload.now ≤ 65535 }
-    requires v4_value { v4 ≡ bit 1 (get_or payload.now 0 0) }
-    requires v6_value { v6 ≡ bit 0 (get_or payload.now 0 0) }
-    ensures value { result ≡ number_of (read payload.now).answer }
-    ensures image_after { image.new ≡ put image.old 0 (image_of (read payload.now)) }
+fn read_concrete(payload: Payload<9>, image: &mut [u8], v4: bool, v6: bool) -> u64
+    requires v4_of_flags { v4 ≡ bit 1 (get_or payload.bytes.now 0 0) }
+    requires v6_of_flags { v6 ≡ bit 0 (get_or payload.bytes.now 0 0) }
+    ensures value { result ≡ number_of (read payload.entry.bytes.now).answer }
+    ensures image_after { image.new ≡ put image.old 0 (image_of (read payload.entry.bytes.now)) }
 {
-    let n = payload.len();
+    let bytes = payload.bytes;
+    let n = bytes.len();
     let end4 = Fseid::MIN_LEN + octets::if_set(v4, 4);
     let end6 = end4 + octets::if_set(v6, 16);
     if n < end6 {
@@ -76,9 +76,9 @@ fn read_concrete(payload: &[u8], image: &mut [u8], v4: bool, v6: bool) -> u64
         }
         return image::put_short(image, SIZE, 2, end6, n);
     }
-    let seid = octets::number(&payload[1..Fseid::MIN_LEN]);
-    let ipv4_address = image::address_at(payload, Fseid::MIN_LEN, v4);
-    let ipv6_address = image::address_at(payload, end4, v6);
+    let seid = octets::number(&bytes[1..Fseid::MIN_LEN]);
+    let ipv4_address = image::address_at(bytes, Fseid::MIN_LEN, v4);
+    let ipv6_address = image::address_at(bytes, end4, v6);
     let record = Fseid {
         v4,
         v6,
@@ -123,6 +123,7 @@ pub fn read(payload: &[u8], image: &mut [u8]) -> u64
         return image::put_short(image, SIZE, 0, Fseid::MIN_LEN, n);
     }
     let flags = payload[0];
+    let payload = Payload { bytes: payload };
     let v6 = octets::bit(flags, 0);
     if octets::bit(flags, 1) {
         if v6 {

@@ -1,13 +1,14 @@
 // The Node ID payload: an address or a name.
 #![tactic(auto)]
 
-ghost use Rattle.std.specs.Prelude.{◌≡◌, [], ◌∷◌, ◌<◌, ◌≤◌, length};
+ghost use Rattle.std.specs.Prelude.{◌≡◌, [], ◌∷◌, ◌≤◌, length};
 ghost use Rattle.kind.specs.Layout.{clear};
 ghost use Rattle.kind.specs.Write.{too_long_output, answered, stored};
 ghost use Rattle.node_id.specs.NodeId.{named, of_ipv4, of_ipv6, by_type, read, write_refusal, meaning, wire};
 ghost use Rattle.node_id.specs.Steps.{outcome, address_behind, name_behind};
 
 use answer::{Answer, Read, Written};
+use kind::Payload;
 use texts::Text;
 
 // An address, or a name: its place in a lent slice, the payload itself after reading.
@@ -19,24 +20,22 @@ pub enum NodeId {
 }
 
 // The address behind the type, or the refusal with its field.
-fn read_address<const N: usize>(payload: &[u8], field: u8) -> Result<[u8; N], Answer>
-    requires has_type { 0 < length payload.now }
-    requires narrow { N ≤ 16 }
-    ensures { result ≡ address_behind field N payload.now }
+fn read_address<const N: usize>(payload: Payload<1>, field: u8) -> Result<[u8; N], Answer>
+    requires { N ≤ 16 }
+    ensures { result ≡ address_behind field N payload.entry.bytes.now }
 {
-    octets::address(texts::part(payload, 1, N)).ok_or(Answer::Short {
+    octets::address(texts::part(payload.bytes, 1, N)).ok_or(Answer::Short {
         field,
         expected: 1 + N,
-        actual: payload.len(),
+        actual: payload.bytes.len(),
     })
 }
 
 // All behind the type is the name.
-fn read_name(payload: &[u8]) -> Result<Text, Answer>
-    requires { 0 < length payload.now }
-    ensures { result ≡ name_behind payload.now }
+fn read_name(payload: Payload<1>) -> Result<Text, Answer>
+    ensures { result ≡ name_behind payload.entry.bytes.now }
 {
-    let name = &payload[1..];
+    let name = &payload.bytes[1..];
     let good = text::well_formed(name);
     if good != name.len() {
         let place = 1 + good;
@@ -50,14 +49,13 @@ fn read_name(payload: &[u8]) -> Result<Text, Answer>
 }
 
 // Reads a payload by a type; what its first byte says doesn't count. The record, and how many bytes it takes.
-fn read_typed(kind: u8, payload: &[u8]) -> Result<(NodeId, usize), Answer>
-    requires { 0 < length payload.now }
-    ensures { outcome result ≡ by_type kind payload.now }
+fn read_typed(kind: u8, payload: Payload<1>) -> Result<(NodeId, usize), Answer>
+    ensures { outcome result ≡ by_type kind payload.entry.bytes.now }
 {
     match kind {
         0 => Ok((NodeId::Ipv4(read_address(payload, 1)?), 5)),
         1 => Ok((NodeId::Ipv6(read_address(payload, 2)?), 17)),
-        2 => Ok((NodeId::Fqdn(read_name(payload)?), payload.len())),
+        2 => Ok((NodeId::Fqdn(read_name(payload)?), payload.bytes.len())),
         _ => Err(Answer::NodeType { byte: kind }),
     }
 }
@@ -77,7 +75,7 @@ fn read_masked(payload: &[u8], mask: u8) -> Result<(NodeId, usize), Answer>
             actual: n,
         });
     }
-    read_typed(payload[0] & mask, payload)
+    read_typed(payload[0] & mask, Payload { bytes: payload })
 }
 
 // Writes an address with its type. It isn't a slice, as a name is: it goes from the record straight into the output.

@@ -1,7 +1,7 @@
 // The Node ID in a record image.
 #![tactic(auto)]
 
-ghost use Rattle.std.specs.Prelude.{◌≡◌, ◌≤◌, ◌<◌, length, ◌++◌};
+ghost use Rattle.std.specs.Prelude.{◌≡◌, ◌++◌};
 ghost use Rattle.answer.specs.declared.Answer.TheVariants.{Done, Short};
 ghost use Rattle.answer.specs.Paper.{number_of};
 ghost use Rattle.octets.specs.Octets.{put};
@@ -10,6 +10,7 @@ ghost use Rattle.node_id.specs.NodeId.{refused, read_fqdn, read};
 ghost use Rattle.node_id_image.specs.NodeIdImage.{size, fields_of, record_of, record_image, image_of, record_at, writes, stores};
 
 use answer::{Answer, Written};
+use kind::Payload;
 use node_id::NodeId;
 use texts::Text;
 
@@ -78,9 +79,8 @@ impl From<Fields> for NodeId {
 }
 
 // Puts the image of a read that is done, from the back to the front, and returns 0, the answer's number. The test tells the compiler
-// what `requires` says, so that no put tests the room again.
+// that there is room, so that no put tests it again.
 fn put_image(out: &mut [u8], used: usize, record: NodeId) -> u64
-    requires { size ≤ length out.old }
     ensures value { result ≡ 0 }
     ensures out_after { out.new ≡ put out.old 0 (head Done used ++ record_image «record») }
 {
@@ -100,10 +100,12 @@ fn put_image(out: &mut [u8], used: usize, record: NodeId) -> u64
 // Puts the image of a refused read, and returns the answer's number. The empty record is the empty name: its type and the zeros
 // behind it, of which seven go into one store with the type.
 fn put_refused(out: &mut [u8], answer: Answer) -> u64
-    requires { size ≤ length out.old }
     ensures value { result ≡ number_of answer }
     ensures out_after { out.new ≡ put out.old 0 (image_of (refused answer)) }
 {
+    if out.len() < SIZE {
+        return answer.number() as u64;
+    }
     octets::put_zeros(out, TYPE + 8, SIZE);
     image::put_u64(out, TYPE, 2);
     image::put_report(out, Written { answer, len: 0 })
@@ -111,7 +113,6 @@ fn put_refused(out: &mut [u8], answer: Answer) -> u64
 
 // Puts the refusal of a payload that ends before a needed field.
 fn put_short(out: &mut [u8], field: u8, expected: usize, actual: usize) -> u64
-    requires { size ≤ length out.old }
     ensures value { result ≡ number_of (Short field expected actual) }
     ensures out_after { out.new ≡ put out.old 0 (image_of (refused (Short field expected actual))) }
 {
@@ -129,14 +130,12 @@ fn put_short(out: &mut [u8], field: u8, expected: usize, actual: usize) -> u64
 
 // Reads a payload of type 2 into an image: all behind the type is the name. Only here is a function called, and a stack frame
 // needed.
-fn read_name(payload: &[u8], image: &mut [u8]) -> u64
-    requires size_in_bounds { size ≤ length image.old }
-    requires payload_nonzero { 0 < length payload.now }
-    ensures value { result ≡ number_of (read_fqdn payload.now).answer }
-    ensures image_after { image.new ≡ put image.old 0 (image_of (read_fqdn payload.now)) }
+fn read_name(payload: Payload<1>, image: &mut [u8]) -> u64
+    ensures value { result ≡ number_of (read_fqdn payload.entry.bytes.now).answer }
+    ensures image_after { image.new ≡ put image.old 0 (image_of (read_fqdn payload.entry.bytes.now)) }
 {
-    let n = payload.len();
-    let name = &payload[1..];
+    let n = payload.bytes.len();
+    let name = &payload.bytes[1..];
     let good = text::well_formed(name);
     if good != name.len() {
         let place = 1 + good;
@@ -147,21 +146,19 @@ fn read_name(payload: &[u8], image: &mut [u8]) -> u64
 }
 
 // Reads a payload that has its type.
-fn read_typed(payload: &[u8], image: &mut [u8]) -> u64
-    requires size_in_bounds { size ≤ length image.old }
-    requires payload_nonzero { 0 < length payload.now }
-    requires payload_len_bound { length payload.now ≤ 65535 }
-    ensures value { result ≡ number_of (read payload.now).answer }
-    ensures image_after { image.new ≡ put image.old 0 (image_of (read payload.now)) }
+fn read_typed(payload: Payload<1>, image: &mut [u8]) -> u64
+    ensures value { result ≡ number_of (read payload.entry.bytes.now).answer }
+    ensures image_after { image.new ≡ put image.old 0 (image_of (read payload.entry.bytes.now)) }
 {
-    match payload[0] {
-        0 => match octets::address(texts::part(payload, 1, 4)) {
+    let bytes = payload.bytes;
+    match bytes[0] {
+        0 => match octets::address(texts::part(bytes, 1, 4)) {
             Some(address) => put_image(image, 5, NodeId::Ipv4(address)),
-            None => put_short(image, 1, 5, payload.len()),
+            None => put_short(image, 1, 5, bytes.len()),
         },
-        1 => match octets::address(texts::part(payload, 1, 16)) {
+        1 => match octets::address(texts::part(bytes, 1, 16)) {
             Some(address) => put_image(image, 17, NodeId::Ipv6(address)),
-            None => put_short(image, 2, 17, payload.len()),
+            None => put_short(image, 2, 17, bytes.len()),
         },
         2 => read_name(payload, image),
         byte => put_refused(image, Answer::NodeType { byte }),
@@ -197,9 +194,10 @@ pub fn read(payload: &[u8], image: &mut [u8]) -> u64
     if n < 1 {
         return put_short(image, 0, 1, n);
     }
-    read_typed(payload, image)
+    read_typed(Payload { bytes: payload }, image)
 }
 
+// PFD Contents' is written alike; f_teid_image says why there is no function for both.
 pub fn write(image: &[u8], texts: &[u8], out: &mut [u8], report: &mut [u8]) -> u64
     ensures value { result ≡ write_number (long_enough size image.now report.old) (writes image.now texts.now out.old) }
     ensures out_after { out.new ≡ write_output (long_enough size image.now report.old) (stores image.now texts.now out.old) out.old }

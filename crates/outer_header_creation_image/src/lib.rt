@@ -13,6 +13,7 @@ ghost use Rattle.outer_header_creation_image.specs.OuterHeaderCreationImage.{fla
 ghost use Rattle.outer_header_creation_image.specs.Steps.{sends_by, address_sent};
 
 use answer::{Answer, Written};
+use kind::Payload;
 use outer_header_creation::{OuterHeaderCreation, OuterHeaderCreationFlags, SentFields};
 use types::Teid;
 
@@ -33,14 +34,12 @@ const IPV4: usize = STAG + 8;
 
 const IPV6: usize = IPV4 + 4;
 
-// That lent bytes are as many stands in the contracts below: an array of `SIZE` bytes would become a slice again for each put.
 pub const SIZE: usize = IPV6 + 16;
 
-// Puts the image of a read that is done, by the byte of its flags, from the back to the front. The test tells the compiler what
-// `requires` says, so that no put tests the room again.
+// Puts the image of a read that is done, by the byte of its flags, from the back to the front. The test tells the compiler
+// that there is room, so that no put tests it again.
 fn put_image(out: &mut [u8], flags: u8, used: usize, record: OuterHeaderCreation)
-    requires size_in_bounds { size ≤ length out.old }
-    requires flags_value { flags ≡ byte_of «record».description }
+    requires { flags ≡ byte_of «record».description }
     ensures { out.new ≡ put out.old 0 (head Done used ++ record_image «record») }
 {
     if out.len() < SIZE {
@@ -70,27 +69,25 @@ fn put_image(out: &mut [u8], flags: u8, used: usize, record: OuterHeaderCreation
 // A read goes straight into the image, without the record that `OuterHeaderCreation::unmarshal` makes.
 
 // Reads a payload that has its first two bytes, by its flags. The TEID is read last: the compiler keeps fewer registers so.
-fn read_by(payload: &[u8], image: &mut [u8], flags: u8) -> u64
-    requires size_in_bounds { size ≤ length image.old }
-    requires in_bounds { 2 ≤ length payload.now }
-    requires payload_len_bound { length payload.now ≤ 65535 }
-    requires flags_value { flags ≡ get_or payload.now 0 0 }
-    ensures value { result ≡ number_of (read payload.now).answer }
-    ensures image_after { image.new ≡ put image.old 0 (image_of (read payload.now)) }
+fn read_by(payload: Payload<2>, image: &mut [u8], flags: u8) -> u64
+    requires { flags ≡ get_or payload.bytes.now 0 0 }
+    ensures value { result ≡ number_of (read payload.entry.bytes.now).answer }
+    ensures image_after { image.new ≡ put image.old 0 (image_of (read payload.entry.bytes.now)) }
 {
-    let n = payload.len();
+    let bytes = payload.bytes;
+    let n = bytes.len();
     let description = OuterHeaderCreationFlags::of(flags);
     let sent = description.asked();
     let ends = sent.ends();
     if n < ends.stag {
         return image::put_refused(image, SIZE, sent.answer(n));
     }
-    let ipv4_address = octets::address(&payload[ends.teid..ends.ipv4]);
-    let ipv6_address = octets::address(&payload[ends.ipv4..ends.ipv6]);
-    let port_number = octets::u16_of(&payload[ends.ipv6..ends.port]);
-    let ctag = octets::u32_of(&payload[ends.port..ends.ctag]);
-    let stag = octets::u32_of(&payload[ends.ctag..ends.stag]);
-    let teid = octets::u32_of(&payload[2..ends.teid]).map(Teid);
+    let ipv4_address = octets::address(&bytes[ends.teid..ends.ipv4]);
+    let ipv6_address = octets::address(&bytes[ends.ipv4..ends.ipv6]);
+    let port_number = octets::u16_of(&bytes[ends.ipv6..ends.port]);
+    let ctag = octets::u32_of(&bytes[ends.port..ends.ctag]);
+    let stag = octets::u32_of(&bytes[ends.ctag..ends.stag]);
+    let teid = octets::u32_of(&bytes[2..ends.teid]).map(Teid);
     let record = OuterHeaderCreation {
         description,
         teid,
@@ -105,14 +102,11 @@ fn read_by(payload: &[u8], image: &mut [u8], flags: u8) -> u64
 }
 
 // By its first byte: with the flags as a constant the compiler knows every place and width.
-fn read_fields(payload: &[u8], image: &mut [u8]) -> u64
-    requires size_in_bounds { size ≤ length image.old }
-    requires in_bounds { 2 ≤ length payload.now }
-    requires payload_len_bound { length payload.now ≤ 65535 }
-    ensures value { result ≡ number_of (read payload.now).answer }
-    ensures image_after { image.new ≡ put image.old 0 (image_of (read payload.now)) }
+fn read_fields(payload: Payload<2>, image: &mut [u8]) -> u64
+    ensures value { result ≡ number_of (read payload.entry.bytes.now).answer }
+    ensures image_after { image.new ≡ put image.old 0 (image_of (read payload.entry.bytes.now)) }
 {
-    let flags = payload[0];
+    let flags = payload.bytes[0];
     match flags {
         0x00 => read_by(payload, image, 0x00),
         0x01 => read_by(payload, image, 0x01),
@@ -188,10 +182,10 @@ fn put_address_sent<const N: usize>(
 
 // Puts the written form of the record that stands in an image, straight from its bytes, and returns how long it is.
 fn put_form(image: &[u8], out: &mut [u8], flags: u8, given: u8) -> usize
-    requires size_in_bounds { size ≤ length image.now }
-    requires flags_value { flags ≡ get_or image.now flags_at 0 }
-    requires given_value { given ≡ get_or image.now given_at 0 }
-    requires given_in_bounds { (ends_of (sends_by flags given)).stag ≤ length out.old }
+    requires whole_image { size ≤ length image.now }
+    requires flags_of_image { flags ≡ get_or image.now flags_at 0 }
+    requires given_of_image { given ≡ get_or image.now given_at 0 }
+    requires room { (ends_of (sends_by flags given)).stag ≤ length out.old }
     ensures value { result ≡ (ends_of (sends_by flags given)).stag }
     ensures out_after { out.new ≡ put out.old 0 (written_form image.now) }
 {
@@ -294,7 +288,7 @@ pub fn read(payload: &[u8], image: &mut [u8]) -> u64
     if 65535 < n {
         return image::put_refused(image, SIZE, Answer::InputTooLong { length: n });
     }
-    read_fields(payload, image)
+    read_fields(Payload { bytes: payload }, image)
 }
 
 pub fn write(image: &[u8], out: &mut [u8], report: &mut [u8]) -> u64

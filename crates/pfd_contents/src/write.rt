@@ -25,32 +25,36 @@ pub(crate) fn bad_field(texts: &[u8], r: PfdContents) -> Option<u8>
     first_bad(r.additional_domain_name_and_protocol, by_urls, texts, 18)
 }
 
+// Texts that aren't too long: the sum of the widths is a number that fits.
+#[derive(Clone, Copy)]
+struct ShortTexts<'a> {
+    bytes: &'a [u8],
+    ghost len_bound: { length bytes.now ≤ 65535 },
+}
+
 // How many bytes a text is written as.
-fn text_width(texts: &[u8], x: Option<Text>) -> usize
-    requires { length texts.now ≤ 65535 }
-    ensures value { result ≡ length (text_bytes texts.now x) }
+fn text_width(texts: ShortTexts, x: Option<Text>) -> usize
+    ensures value { result ≡ length (text_bytes texts.entry.bytes.now x) }
     ensures upper_bound { result ≤ 65537 }
 {
     match x {
-        Some(text) => text.of(texts).len() + 2,
+        Some(text) => text.of(texts.bytes).len() + 2,
         None => 0,
     }
 }
 
-fn list_width(texts: &[u8], x: TextList) -> usize
-    requires { length texts.now ≤ 65535 }
-    ensures value { result ≡ length (run_bytes texts.now x) }
+fn list_width(texts: ShortTexts, x: TextList) -> usize
+    ensures value { result ≡ length (run_bytes texts.entry.bytes.now x) }
     ensures upper_bound { result ≤ 65535 }
 {
     let place = x.place;
     let len = x.len;
-    texts::part(texts, place, len).len()
+    texts::part(texts.bytes, place, len).len()
 }
 
 // How many bytes a record is written as.
-fn form_width(texts: &[u8], r: PfdContents) -> usize
-    requires { length texts.now ≤ 65535 }
-    ensures { result ≡ length (wire_by_runs texts.now r) }
+fn form_width(texts: ShortTexts, r: PfdContents) -> usize
+    ensures { result ≡ length (wire_by_runs texts.entry.bytes.now r) }
 {
     let end_flow = 2 + text_width(texts, r.flow_description);
     let end_url = end_flow + text_width(texts, r.url);
@@ -98,7 +102,7 @@ impl PfdContents {
         if let Some(field) = bad_field(texts, self) {
             return unwritten(Answer::BadText { field });
         }
-        let len = form_width(texts, self);
+        let len = form_width(ShortTexts { bytes: texts }, self);
         if 65535 < len {
             return unwritten(Answer::OutputTooLong);
         }

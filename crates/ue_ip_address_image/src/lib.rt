@@ -1,7 +1,7 @@
 // The UE IP Address in a record image.
 #![tactic(auto)]
 
-ghost use Rattle.std.specs.Prelude.{◌≡◌, true, false, ◌||◌, ◌++◌, ◌≤◌, length, get_or};
+ghost use Rattle.std.specs.Prelude.{◌≡◌, true, false, ◌||◌, ◌++◌, get_or};
 ghost use Rattle.answer.specs.declared.Answer.TheVariants.{Done};
 ghost use Rattle.answer.specs.Paper.{number_of};
 ghost use Rattle.octets.specs.Octets.{pick, bit, put};
@@ -10,6 +10,7 @@ ghost use Rattle.ue_ip_address.specs.UeIpAddress.{breaks_rule1, broken_rule, rea
 ghost use Rattle.ue_ip_address_image.specs.UeIpAddressImage.{size, record_image, image_of, record_at, writes, stores};
 
 use answer::Answer;
+use kind::Payload;
 use ue_ip_address::UeIpAddress;
 
 // Where each field of an image stands, and how long an image is.
@@ -67,14 +68,6 @@ fn put_image(out: &mut [u8], used: usize, record: UeIpAddress)
 // A read goes straight into the image, without the record and the copies that `UeIpAddress::unmarshal` makes. The flags that say
 // which fields follow are passed on as constants where that is quicker: the compiler then knows every place and width.
 
-// A payload that has its flags and isn't too long.
-#[derive(Clone, Copy)]
-struct Payload<'a> {
-    bytes: &'a [u8],
-    ghost in_bounds: { 1 ≤ length bytes.now },
-    ghost len_bound: { length bytes.now ≤ 65535 },
-}
-
 // The number of the field that is cut behind the addresses: only one follows them.
 fn last_field(ipv6d: bool) -> u8
     ensures { result ≡ pick ipv6d 3 4 }
@@ -84,7 +77,7 @@ fn last_field(ipv6d: bool) -> u8
 
 // Reads the fields of a payload whose flags break no rule.
 fn read_fields(
-    payload: Payload,
+    payload: Payload<1>,
     image: &mut [u8],
     v4: bool,
     v6: bool,
@@ -92,10 +85,10 @@ fn read_fields(
     ip6pl: bool,
 ) -> u64
     requires unbroken { broken_rule (get_or payload.bytes.now 0 0) ≡ 0 }
-    requires v4_value { v4 ≡ bit 1 (get_or payload.bytes.now 0 0) }
-    requires v6_value { v6 ≡ bit 0 (get_or payload.bytes.now 0 0) }
-    requires ipv6d_value { ipv6d ≡ bit 3 (get_or payload.bytes.now 0 0) }
-    requires ip6pl_value { ip6pl ≡ bit 6 (get_or payload.bytes.now 0 0) }
+    requires v4_of_flags { v4 ≡ bit 1 (get_or payload.bytes.now 0 0) }
+    requires v6_of_flags { v6 ≡ bit 0 (get_or payload.bytes.now 0 0) }
+    requires ipv6d_of_flags { ipv6d ≡ bit 3 (get_or payload.bytes.now 0 0) }
+    requires ip6pl_of_flags { ip6pl ≡ bit 6 (get_or payload.bytes.now 0 0) }
     ensures value { result ≡ number_of (read payload.entry.bytes.now).answer }
     ensures image_after { image.new ≡ put image.old 0 (image_of (read payload.entry.bytes.now)) }
 {
@@ -132,7 +125,7 @@ fn read_fields(
 }
 
 // Reads a payload without IPv6D and IP6PL, by V4 and V6.
-fn read_addresses(payload: Payload, image: &mut [u8]) -> u64
+fn read_addresses(payload: Payload<1>, image: &mut [u8]) -> u64
     requires unbroken { broken_rule (get_or payload.bytes.now 0 0) ≡ 0 }
     requires ipv6d_unset { false ≡ bit 3 (get_or payload.bytes.now 0 0) }
     requires ip6pl_unset { false ≡ bit 6 (get_or payload.bytes.now 0 0) }
@@ -154,7 +147,7 @@ fn read_addresses(payload: Payload, image: &mut [u8]) -> u64
 }
 
 // Reads a payload with IPv6D or IP6PL, which keeps rule 1.
-fn read_prefixed(payload: Payload, image: &mut [u8]) -> u64
+fn read_prefixed(payload: Payload<1>, image: &mut [u8]) -> u64
     requires keeps_rule1 { breaks_rule1 (get_or payload.bytes.now 0 0) ≡ false }
     requires prefixed { bit 3 (get_or payload.bytes.now 0 0) || bit 6 (get_or payload.bytes.now 0 0) ≡ true }
     ensures value { result ≡ number_of (read payload.entry.bytes.now).answer }

@@ -3,4 +3,4 @@ use Rattle.node_id.proofs.Returns.{address_part}
 use Rattle.node_id.proofs.read_address.Goals as goal
 
 pub returns : goal.returns
-returns g c = rw (c.ok_or.ensures.value, c.address.ensures, c.part.ensures) (address_part _ _ _ c.requires.has_type)
+returns g c = rw (c.ok_or.ensures.value, c.address.ensures, c.part.ensures) (address_part _ _ _ c.args.payload.in_bounds)

@@ -1,15 +1,16 @@
 -- `node_id_image::put_image` meets its contract: its puts, from the back to the front, are one put of the image.
 use Prim.Native.Nat.{ℕ, ◌≤◌}
 use native.Mathlib.Omega.{arith}
-use mathlib.Core.Path.{◌≡◌, refl}
+use mathlib.Core.Path.{◌≡◌, refl, sym}
 use mathlib.Core.List.{List, [], ◌∷◌, ◌++◌}
-use lib.ListN.{length}
+use lib.ListN.{length, length-append}
 use Rattle.answer.specs.declared.Answer.TheVariants.{Done}
 use Rattle.octets.specs.Octets.{put}
+use Rattle.octets.proofs.Laws.{put_not}
 use Rattle.node_id.specs.declared.NodeId.{NodeId}
 use Rattle.node_id_image.specs.declared.Fields.{Fields}
 use Rattle.image.specs.Image.{little_endian_bytes, head}
-use Rattle.image.proofs.Laws.{last_part, then_part, then_number, then_byte, then_head}
+use Rattle.image.proofs.Laws.{length_little_endian_bytes_law, length_head, last_part, then_part, then_number, then_byte, then_head}
 use Rattle.node_id_image.specs.NodeIdImage.{type_at, place_at, len_at, ipv4_at, ipv6_at, size, fields_of, record_image}
 use borrow.Author.Rules.{rules}
 use Rattle.node_id_image.proofs.put_image.Goals as goal
@@ -34,8 +35,15 @@ stored d d1 d2 d3 d4 d5 d6 n x r room l4 l6 e q1 q2 q3 q4 q5 q6 =
     let s5 = then_byte s4 type_at r.type_byte q5 refl in
     rw (← e) (then_head s5 Done n q6 refl)
 
+-- how long the image is
+long : (n : ℕ) (x : NodeId) → length (fields_of x).ipv4_address ≡ 4 → length (fields_of x).ipv6_address ≡ 16 → length (head Done n ++ record_image x) ≡ size
+unfolding record_image
+long n x l4 l6 = simp (length-append, length_head, length_little_endian_bytes_law, l4, l6) (omega arith)
+
 pub returns-then-out-lt-SIZE : goal.returns-then-out-lt-SIZE
-returns-then-out-lt-SIZE c = absurd (omega arith)
+returns-then-out-lt-SIZE c =
+    let l = long c.args.used c.args.«record» (search rules) (search rules) in
+    record { value = refl; out_after = sym (put_not _ _ _ (omega arith)) }
 
 pub returns : goal.returns
 returns c =
@@ -43,5 +51,5 @@ returns c =
     let l6 : length c.from-fields.result.ipv6_address ≡ 16 = search rules in
     record {
       value = refl;
-      out_after = stored _ _ _ _ _ _ _ _ _ _ c.requires l4 l6 c.from-fields.ensures c.put_bytes.ensures c.put_bytes-2.ensures c.put_u64.ensures c.put_u64-2.ensures c.put_byte.ensures c.put_head.ensures;
+      out_after = stored _ _ _ _ _ _ _ _ _ _ c.if-out-lt-SIZE.false l4 l6 c.from-fields.ensures c.put_bytes.ensures c.put_bytes-2.ensures c.put_u64.ensures c.put_u64-2.ensures c.put_byte.ensures c.put_head.ensures;
     }

@@ -1,12 +1,14 @@
 -- `node_id_image::put_refused` meets its contract: its puts, from the back to the front, are one put of the image.
 use Prim.Native.Nat.{ℕ, ◌+◌, ◌≤◌}
-use mathlib.Core.Path.{◌≡◌, refl}
+use native.Mathlib.Omega.{arith}
+use mathlib.Core.Path.{◌≡◌, refl, sym}
 use mathlib.Core.List.{List}
-use lib.ListN.{length, replicate}
+use lib.ListN.{length, replicate, length-append}
 use Rattle.answer.specs.declared.Answer.{Answer}
 use Rattle.octets.specs.Octets.{put}
+use Rattle.octets.proofs.Laws.{put_not}
 use Rattle.image.specs.Image.{little_endian_bytes, head}
-use Rattle.image.proofs.Laws.{last_part, then_number, then_head}
+use Rattle.image.proofs.Laws.{length_little_endian_bytes_law, length_head, last_part, then_number, then_head}
 use Rattle.node_id.specs.NodeId.{refused}
 use Rattle.node_id_image.specs.NodeIdImage.{type_at, size, record_image, image_of}
 use Rattle.node_id_image.proofs.put_refused.Goals as goal
@@ -22,6 +24,16 @@ stored d d1 d2 d3 a room q1 q2 q3 =
     let s2 = then_number s1 type_at 2 q2 refl in
     then_head s2 a 0 q3 refl
 
+-- how long the image is
+long : (a : Answer) → length (image_of (refused a)) ≡ size
+unfolding refused record_image
+long a = simp (length-append, length_head, length_little_endian_bytes_law) (omega arith)
+
+pub returns-then-out-lt-SIZE : goal.returns-then-out-lt-SIZE
+returns-then-out-lt-SIZE c =
+    let l = long c.args.answer in
+    record { value = c.number.ensures; out_after = sym (put_not _ _ _ (omega arith)) }
+
 pub returns : goal.returns
 returns c =
-    record { value = c.put_report.ensures.value; out_after = stored _ _ _ _ _ c.requires c.put_zeros.ensures c.put_u64.ensures c.put_report.ensures.out_after }
+    record { value = c.put_report.ensures.value; out_after = stored _ _ _ _ _ c.if-out-lt-SIZE.false c.put_zeros.ensures c.put_u64.ensures c.put_report.ensures.out_after }

@@ -52,10 +52,10 @@ returns c =
     let g = c.args.given in
     let p : Parts m c.args.flags g _ _ _ _ _ _ _ _ _ _ =
     record {
-      long = c.requires.size_in_bounds;
+      long = c.requires.whole_image;
       small = c.ranges.flags.fits;
-      flags = c.requires.flags_value;
-      given = c.requires.given_value;
+      flags = c.requires.flags_of_image;
+      given = c.requires.given_of_image;
       sent_teid = search rules;
       sent_ipv4 = search rules;
       sent_ipv6 = search rules;
@@ -75,7 +75,7 @@ returns c =
     let e9 = c.put_number_sent.ensures in
     record {
       value = last p _ _ _ _ _ _ e6.value e1.value e2.value e7.value e8.value e9.value;
-      out_after = stored p _ _ _ _ _ _ e6.value e1.value e2.value e7.value e8.value e9.value _ _ _ _ _ _ _ _ _ c.put_byte.ensures c.put_byte-2.ensures e6.out_after e1.out_after e2.out_after e7.out_after e8.out_after e9.out_after c.requires.given_in_bounds;
+      out_after = stored p _ _ _ _ _ _ e6.value e1.value e2.value e7.value e8.value e9.value _ _ _ _ _ _ _ _ _ c.put_byte.ensures c.put_byte-2.ensures e6.out_after e1.out_after e2.out_after e7.out_after e8.out_after e9.out_after c.requires.room;
     }
 
 pub shape_of-out : goal.shape_of-out

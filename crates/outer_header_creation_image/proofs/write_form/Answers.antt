@@ -45,7 +45,7 @@ returns-then-not-has_room c = let all = refuses _ _ c.byte_at-flags.result c.byt
 
 pub put_form-len-requires : goal.put_form-len-requires
 put_form-len-requires c =
-    record { size_in_bounds = c.requires; flags_value = c.byte_at-flags.ensures; given_value = c.byte_at-given.ensures; given_in_bounds = fits c.byte_at-flags.result c.byte_at-given.result _ _ c.has_room.ensures c.if-not-has_room.false-raw }
+    record { whole_image = c.requires; flags_of_image = c.byte_at-flags.ensures; given_of_image = c.byte_at-given.ensures; room = fits c.byte_at-flags.result c.byte_at-given.result _ _ c.has_room.ensures c.if-not-has_room.false-raw }
 
 pub returns : goal.returns
 returns c =

@@ -17,9 +17,6 @@ returns-then-n-gt65535 c = let all = read_long _ _ _ (search rules) (refusal rea
 pub returns-then-n-lt2 : goal.returns-then-n-lt2
 returns-then-n-lt2 c = let all = read_long _ _ _ (search rules) (refusal read _ _ _ (c.put_short.ensures.value, c.put_short.ensures.out_after) (search too_short)) in record { value = all.0; image_after = all.1 }
 
-pub put_image-requires : goal.put_image-requires
-put_image-requires c = search rules
-
 pub returns-in-Ok : goal.returns-in-Ok
 returns-in-Ok c =
     let all = read_long _ _ _ (search rules) (accepted read _ _ c.put_image.ensures (enough _ _ (omega arith) (omega arith) (as_fields _ _ c.read_fields.ensures c.in-Ok.is))) in

@@ -18,7 +18,7 @@ returns c =
     let r = c.requires in
     let p = c.args.payload in
     accepted _ _ c.put_image.ensures
-    (whole _ p.len_bound p.in_bounds r.unbroken _ _ r.v4_value c.if_set-end4.ensures.value _ _ r.v6_value c.if_set.ensures.value _ _ r.ipv6d_value c.if_set-2.ensures.value _ _ r.ip6pl_value c.if_set-3.ensures.value
+    (whole _ p.len_bound p.in_bounds r.unbroken _ _ r.v4_of_flags c.if_set-end4.ensures.value _ _ r.v6_of_flags c.if_set.ensures.value _ _ r.ipv6d_of_flags c.if_set-2.ensures.value _ _ r.ip6pl_of_flags c.if_set-3.ensures.value
     _ _ _ _ _ _ _ _ _ _ _ c.if-n-end.false
     c.address.ensures (add-sub_cancel_left _ _) c.address-2.ensures (add-sub_cancel_left _ _)
     c.bit.ensures c.bit-2.ensures c.bit-3.ensures

@@ -36,8 +36,8 @@ returns-then-breaks_rule_3 c =
 pub read_fields-requires : goal.read_fields-requires
 read_fields-requires c =
     let b = get_or c.args.payload.bytes.now 0 0 in
-    let one = not_second b c.bit.ensures c.breaks_rule_2.ensures c.if-breaks_rule_2.false c.if-bit.true in record { unbroken = search free; v4_value = search rules; v6_value = search rules; ipv6d_value = one.0; ip6pl_value = one.1 }
+    let one = not_second b c.bit.ensures c.breaks_rule_2.ensures c.if-breaks_rule_2.false c.if-bit.true in record { unbroken = search free; v4_of_flags = search rules; v6_of_flags = search rules; ipv6d_of_flags = one.0; ip6pl_of_flags = one.1 }
 
 pub read_fields-requires-2 : goal.read_fields-requires-2
 read_fields-requires-2 c =
-    let one = then_second (get_or c.args.payload.bytes.now 0 0) c.bit.ensures c.requires.prefixed c.if-bit.false in record { unbroken = search free; v4_value = search rules; v6_value = search rules; ipv6d_value = one.0; ip6pl_value = one.1 }
+    let one = then_second (get_or c.args.payload.bytes.now 0 0) c.bit.ensures c.requires.prefixed c.if-bit.false in record { unbroken = search free; v4_of_flags = search rules; v6_of_flags = search rules; ipv6d_of_flags = one.0; ip6pl_of_flags = one.1 }
