@@ -11,7 +11,10 @@ use lib.Seq.{take_all}
 use lib.Dec.{leb, eqb}
 use borrow.Author.Tests.{le-leb, lt-leb, eq-eqb, ne_eqb, eqb-true, leb-true}
 use Rattle.answer.specs.declared.Answer.{Answer}
+use Rattle.answer.specs.declared.Read.{Read}
 use Rattle.answer.specs.declared.Written.{Written}
+use Rattle.std.specs.Fn.{Once}
+use denote.Ref.{MutBor}
 use Rattle.answer.specs.Paper.{number_of, wrote, written}
 use Rattle.octets.specs.Octets.{pick, if_set, Bytes, put}
 use Rattle.octets.proofs.Laws.{if_set_le_law, put_not, put_behind, put_start}
@@ -21,7 +24,7 @@ use Rattle.kind.proofs.Cases.{number_is_done}
 use Rattle.hex_text.specs.Hex.{spelled, pairs, decimal}
 use Rattle.hex_text.proofs.Laws.{length_spelled, decimal_most}
 use Rattle.case_line.specs.declared.LineRow.{LineRow}
-use Rattle.case_line.specs.Steps.{row_in, redone}
+use Rattle.case_line.specs.Steps.{row_in, redone, WroteRow}
 use Rattle.case_line.specs.Line.{Row, row, row_of, row_for, all_pairs, payload, line_row, hex_or_dash, shown, printed, taken}
 
 -- ---- outputs
@@ -148,6 +151,24 @@ module _ (k : Kind) (same : (s : List ℕ) → length (k.clear s) ≡ length s) 
   unfolding answered stored
   redo_fixed answer used value s d d' x y w r e ea eu ev b h ew ed er =
       redo s d d' (answer x) (used x) (value x) None w r b h (ap answer e ∙ ea) (ap used e ∙ eu) (ap value e ∙ ev) (λ reads. refl) ew ed er
+
+  -- the same of what `row_of` promises of its `write`, which writes a record as the kind does
+  module _ {F T : Type 0} {g : Once F (T × (MutBor (List ℕ) × Unit {0})) (Written × (MutBor (List ℕ) × Unit {0}))} {f : F} (value : T → k.Value) (s d d' : List ℕ) (x y : Read T) (r : LineRow)
+      (e : x ≡ y) (ea : y.answer ≡ k.reader.answer s) (eu : y.used ≡ k.reader.used s) (ev : value y.«record» ≡ k.reader.value s) (b : Bytes s) (h : length s ≤ length d) (wrote : WroteRow g f x d r d') where
+    pub row_fixed : ((p q : MutBor (List ℕ)) (w : Written) → g.post f (x.«record», (p, tt)) (w, (q, tt)) → (w ≡ written (length (k.wire (value x.«record»))) (length p.now)) × (q.now ≡ put p.now 0 (k.wire (value x.«record»))))
+        → record { bytes_after : Some (row_in d' r) ≡ Some (row_of k.reader k.wire s); len_in_bounds : r.len ≤ length d }
+    row_fixed calls =
+        let m = calls wrote.shown wrote.left wrote.written wrote.met in
+        let row = redo_fixed (λ (x : Read T). x.answer) (λ (x : Read T). x.used) (λ (x : Read T). value x.«record») s d d' x y wrote.written r e ea eu ev b h (rw wrote.shows at m.0) (sym wrote.leaves ∙ (rw wrote.shows at m.1)) wrote.is in
+        record { bytes_after = ap Some row.bytes_after; len_in_bounds = row.len_in_bounds }
+
+    pub row_with_texts : (refused : T → Option Answer) → (Reads k.reader s (value x.«record») x.used → refused x.«record» ≡ None)
+        → ((p q : MutBor (List ℕ)) (w : Written) → g.post f (x.«record», (p, tt)) (w, (q, tt)) → (w ≡ answered (refused x.«record») (k.wire (value x.«record»)) (length p.now)) × (q.now ≡ stored (refused x.«record») p.now (k.wire (value x.«record»))))
+        → record { bytes_after : Some (row_in d' r) ≡ Some (row_of k.reader k.wire s); len_in_bounds : r.len ≤ length d }
+    row_with_texts refused able calls =
+        let m = calls wrote.shown wrote.left wrote.written wrote.met in
+        let row = redo s d d' x.answer x.used (value x.«record») (refused x.«record») wrote.written r b h (ap (λ (x : Read T). x.answer) e ∙ ea) (ap (λ (x : Read T). x.used) e ∙ eu) (ap (λ (x : Read T). value x.«record») e ∙ ev) able (rw wrote.shows at m.0) (sym wrote.leaves ∙ (rw wrote.shows at m.1)) wrote.is in
+        record { bytes_after = ap Some row.bytes_after; len_in_bounds = row.len_in_bounds }
 
 -- the beginning of a list, no longer than asked
 pub take_most : (n m : ℕ) (bs : List ℕ) → n ≤ m → length (take n bs) ≤ m

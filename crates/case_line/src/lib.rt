@@ -5,10 +5,10 @@ ghost use Rattle.std.specs.Prelude.{◌≡◌, ◌∷◌, [], ◌++◌, ◌+◌,
 ghost use Rattle.std.specs.Prelude.{None, Some, IfSome, option_map};
 ghost use Rattle.octets.specs.Octets.{pick, put};
 ghost use Rattle.hex_text.specs.Hex.{decimal};
-ghost use Rattle.case_line.specs.Line.{row, row_u, row_f, row_s, row_n, row_o, row_p, row_for, payload, line_row, hex_or_dash, shown, printed, taken};
-ghost use Rattle.case_line.specs.Steps.{row_in, redone};
+ghost use Rattle.case_line.specs.Line.{row, row_for, payload, line_row, hex_or_dash, shown, printed, taken};
+ghost use Rattle.case_line.specs.Steps.{row_in, WroteRow};
 
-use answer::Answer;
+use answer::{Read, Written};
 use f_teid::Fteid;
 use fseid::Fseid;
 use node_id::NodeId;
@@ -79,109 +79,49 @@ struct LineRow {
     len: usize,
 }
 
-// The row of a payload that was read, and whose record was written again in `len` bytes.
-fn row_of(answer: Answer, used: usize, len: usize) -> LineRow
-    ensures { result ≡ redone answer used len }
+// The row of a payload that was read, once `write` has put the written form of its record into `bytes`.
+fn row_of<T: Copy, W: FnOnce(T, &mut [u8]) -> Written>(
+    read: Read<T>,
+    bytes: &mut [u8],
+    write: W,
+) -> LineRow
+    requires { W.IsAlwaysCallable write }
+    ensures { WroteRow W.FnOnce write read bytes.old result bytes.new }
 {
-    let number = answer.number();
+    let number = read.answer.number();
+    let written = write(read.record, bytes);
     LineRow {
         number,
-        used,
-        len: octets::if_set(number == 0, len),
+        used: read.used,
+        len: octets::if_set(number == 0, written.len),
     }
 }
 
-// Reads and writes a UE IP Address.
-fn row_of_ue_ip_address(payload: &[u8], bytes: &mut [u8]) -> LineRow
-    requires { length payload.now ≤ length bytes.old }
-    ensures bytes_after { row_in bytes.new result ≡ row_u payload.now }
-    ensures len_in_bounds { result.len ≤ length bytes.old }
-{
-    let read = UeIpAddress::unmarshal(payload);
-    let answer = read.answer;
-    let record = read.record;
-    let written = record.marshal(bytes);
-    row_of(answer, read.used, written.len)
-}
-
-// Reads and writes an F-TEID.
-fn row_of_f_teid(payload: &[u8], bytes: &mut [u8]) -> LineRow
-    requires { length payload.now ≤ length bytes.old }
-    ensures bytes_after { row_in bytes.new result ≡ row_f payload.now }
-    ensures len_in_bounds { result.len ≤ length bytes.old }
-{
-    let read = Fteid::unmarshal(payload);
-    let answer = read.answer;
-    let record = read.record;
-    let written = record.marshal(bytes);
-    row_of(answer, read.used, written.len)
-}
-
-// Reads and writes an F-SEID.
-fn row_of_fseid(payload: &[u8], bytes: &mut [u8]) -> LineRow
-    requires { length payload.now ≤ length bytes.old }
-    ensures bytes_after { row_in bytes.new result ≡ row_s payload.now }
-    ensures len_in_bounds { result.len ≤ length bytes.old }
-{
-    let read = Fseid::unmarshal(payload);
-    let answer = read.answer;
-    let record = read.record;
-    let written = record.marshal(bytes);
-    row_of(answer, read.used, written.len)
-}
-
-// Reads and writes a Node ID. Its name is in the payload.
-fn row_of_node_id(payload: &[u8], bytes: &mut [u8]) -> LineRow
-    requires { length payload.now ≤ length bytes.old }
-    ensures bytes_after { row_in bytes.new result ≡ row_n payload.now }
-    ensures len_in_bounds { result.len ≤ length bytes.old }
-{
-    let read = NodeId::unmarshal(payload);
-    let answer = read.answer;
-    let record = read.record;
-    let written = record.marshal(payload, bytes);
-    row_of(answer, read.used, written.len)
-}
-
-// Reads and writes an Outer Header Creation.
-fn row_of_outer_header_creation(payload: &[u8], bytes: &mut [u8]) -> LineRow
-    requires { length payload.now ≤ length bytes.old }
-    ensures bytes_after { row_in bytes.new result ≡ row_o payload.now }
-    ensures len_in_bounds { result.len ≤ length bytes.old }
-{
-    let read = OuterHeaderCreation::unmarshal(payload);
-    let answer = read.answer;
-    let record = read.record;
-    let written = record.marshal(bytes);
-    row_of(answer, read.used, written.len)
-}
-
-// Reads and writes a PFD Contents. Its texts are in the payload.
-fn row_of_pfd_contents(payload: &[u8], bytes: &mut [u8]) -> LineRow
-    requires { length payload.now ≤ length bytes.old }
-    ensures bytes_after { row_in bytes.new result ≡ row_p payload.now }
-    ensures len_in_bounds { result.len ≤ length bytes.old }
-{
-    let read = PfdContents::unmarshal(payload);
-    let answer = read.answer;
-    let record = read.record;
-    let written = record.marshal(payload, bytes);
-    row_of(answer, read.used, written.len)
-}
-
-// The row of a payload, by the letter of its kind.
+// The row of a payload, by the letter of its kind. The texts of a Node ID and of a PFD Contents are in the payload.
 fn row_for(letter: u8, payload: &[u8], bytes: &mut [u8]) -> Option<LineRow>
     requires { length payload.now ≤ length bytes.old }
     ensures bytes_after { option_map (row_in bytes.new) result ≡ row_for letter payload.now }
     ensures len_in_bounds { IfSome result (λ row. row.len ≤ length bytes.old) }
 {
     match letter {
-        b'U' => Some(row_of_ue_ip_address(payload, bytes)),
-        b'F' => Some(row_of_f_teid(payload, bytes)),
-        b'S' => Some(row_of_fseid(payload, bytes)),
-        b'N' => Some(row_of_node_id(payload, bytes)),
-        b'O' => Some(row_of_outer_header_creation(payload, bytes)),
-        b'P' => Some(row_of_pfd_contents(payload, bytes)),
+        b'U' => Some(row_of(UeIpAddress::unmarshal(payload), bytes, UeIpAddress::marshal)),
+        b'F' => Some(row_of(Fteid::unmarshal(payload), bytes, Fteid::marshal)),
+        b'S' => Some(row_of(Fseid::unmarshal(payload), bytes, Fseid::marshal)),
+        b'N' => Some(row_of(
+            NodeId::unmarshal(payload),
+            bytes,
+            |r, out| r.marshal(payload, out),
+        )),
+        b'O' => Some(row_of(
+            OuterHeaderCreation::unmarshal(payload),
+            bytes,
+            OuterHeaderCreation::marshal,
+        )),
+        b'P' => Some(row_of(
+            PfdContents::unmarshal(payload),
+            bytes,
+            |r, out| r.marshal(payload, out),
+        )),
         _ => None,
     }
 }
