@@ -4,13 +4,17 @@ use native.Mathlib.Omega.{arith}
 use mathlib.Core.Path.{◌≡◌, refl, sym, ap, ◌∙◌}
 use mathlib.Core.Bool.{Bool, true, false}
 use mathlib.Core.List.{List, [], ◌∷◌, ◌++◌, append_assoc}
-use Rattle.std.specs.Prelude.{Option, None, Some, option_and_then}
+use Rattle.std.specs.Prelude.{Option, None, Some, IfSome, option_map, option_and_then}
+use Rattle.std.specs.Bool.{then_some}
 use lib.ListN.{length, take, drop, get_or, length-append, length-take}
 use lib.Seq.{take_all}
 use lib.Dec.{leb, eqb}
 use borrow.Author.Tests.{le-leb, lt-leb, eq-eqb, ne_eqb, eqb-true, leb-true}
 use Rattle.answer.specs.declared.Answer.{Answer}
+use Rattle.answer.specs.declared.Read.{Read}
 use Rattle.answer.specs.declared.Written.{Written}
+use Rattle.std.specs.Fn.{Once}
+use denote.Ref.{MutBor}
 use Rattle.answer.specs.Paper.{number_of, wrote, written}
 use Rattle.octets.specs.Octets.{pick, if_set, Bytes, put}
 use Rattle.octets.proofs.Laws.{if_set_le_law, put_not, put_behind, put_start}
@@ -20,7 +24,7 @@ use Rattle.kind.proofs.Cases.{number_is_done}
 use Rattle.hex_text.specs.Hex.{spelled, pairs, decimal}
 use Rattle.hex_text.proofs.Laws.{length_spelled, decimal_most}
 use Rattle.case_line.specs.declared.LineRow.{LineRow}
-use Rattle.case_line.specs.Steps.{row_in, redone}
+use Rattle.case_line.specs.Steps.{row_in, redone, WroteRow}
 use Rattle.case_line.specs.Line.{Row, row, row_of, row_for, all_pairs, payload, line_row, hex_or_dash, shown, printed, taken}
 
 -- ---- outputs
@@ -117,8 +121,8 @@ module _ (k : Kind) (same : (s : List ℕ) → length (k.clear s) ≡ length s) 
       → w ≡ answered refused (k.wire v) (length d)
       → d' ≡ stored refused d (k.wire v)
       → r ≡ redone a used w.len
-      → record { bytes_after : row_in r d' ≡ Some (row_of k.reader k.wire s); len_in_bounds : r.len ≤ length d }
-  unfolding row_in row_of if_set answered stored
+      → record { bytes_after : row_in d' r ≡ row_of k.reader k.wire s; len_in_bounds : r.len ≤ length d }
+  unfolding row_of if_set answered stored
   redo s d d' a used v refused w r b h ea eu ev able ew ed er = record {
     bytes_after = rw (er, go (eqb (number_of a) 0) refl, ea, eu, ev);
     len_in_bounds = omega (arith, ap (λ (r : LineRow). r.len) er, if_set_le_law (eqb (number_of a) 0) w.len, ap (λ (w : Written). w.len) ew, answered_fits refused (k.wire v) (length d));
@@ -143,19 +147,28 @@ module _ (k : Kind) (same : (s : List ℕ) → length (k.clear s) ≡ length s) 
       → w ≡ written (length (k.wire (value x))) (length d)
       → d' ≡ put d 0 (k.wire (value x))
       → r ≡ redone (answer x) (used x) w.len
-      → record { bytes_after : row_in r d' ≡ Some (row_of k.reader k.wire s); len_in_bounds : r.len ≤ length d }
+      → record { bytes_after : row_in d' r ≡ row_of k.reader k.wire s; len_in_bounds : r.len ≤ length d }
   unfolding answered stored
   redo_fixed answer used value s d d' x y w r e ea eu ev b h ew ed er =
       redo s d d' (answer x) (used x) (value x) None w r b h (ap answer e ∙ ea) (ap used e ∙ eu) (ap value e ∙ ev) (λ reads. refl) ew ed er
 
--- a row that isn't there
-pub no_row : (r : LineRow) (bs : List ℕ) (o : Option Row) → row_in r bs ≡ o → r.known ≡ false → None ≡ o
-unfolding row_in
-no_row r bs o e h = rw h at e
+  -- the same of what `row_of` promises of its `write`, which writes a record as the kind does
+  module _ {F T : Type 0} {g : Once F (T × (MutBor (List ℕ) × Unit {0})) (Written × (MutBor (List ℕ) × Unit {0}))} {f : F} (value : T → k.Value) (s d d' : List ℕ) (x y : Read T) (r : LineRow)
+      (e : x ≡ y) (ea : y.answer ≡ k.reader.answer s) (eu : y.used ≡ k.reader.used s) (ev : value y.«record» ≡ k.reader.value s) (b : Bytes s) (h : length s ≤ length d) (wrote : WroteRow g f x d r d') where
+    pub row_fixed : ((p q : MutBor (List ℕ)) (w : Written) → g.post f (x.«record», (p, tt)) (w, (q, tt)) → (w ≡ written (length (k.wire (value x.«record»))) (length p.now)) × (q.now ≡ put p.now 0 (k.wire (value x.«record»))))
+        → record { bytes_after : Some (row_in d' r) ≡ Some (row_of k.reader k.wire s); len_in_bounds : r.len ≤ length d }
+    row_fixed calls =
+        let m = calls wrote.shown wrote.left wrote.written wrote.met in
+        let row = redo_fixed (λ (x : Read T). x.answer) (λ (x : Read T). x.used) (λ (x : Read T). value x.«record») s d d' x y wrote.written r e ea eu ev b h (rw wrote.shows at m.0) (sym wrote.leaves ∙ (rw wrote.shows at m.1)) wrote.is in
+        record { bytes_after = ap Some row.bytes_after; len_in_bounds = row.len_in_bounds }
 
-pub a_row : (r : LineRow) (bs : List ℕ) (o : Option Row) → row_in r bs ≡ o → r.known ≡ true → Some (row r.number r.used (take r.len bs)) ≡ o
-unfolding row_in
-a_row r bs o e h = rw h at e
+    pub row_with_texts : (refused : T → Option Answer) → (Reads k.reader s (value x.«record») x.used → refused x.«record» ≡ None)
+        → ((p q : MutBor (List ℕ)) (w : Written) → g.post f (x.«record», (p, tt)) (w, (q, tt)) → (w ≡ answered (refused x.«record») (k.wire (value x.«record»)) (length p.now)) × (q.now ≡ stored (refused x.«record») p.now (k.wire (value x.«record»))))
+        → record { bytes_after : Some (row_in d' r) ≡ Some (row_of k.reader k.wire s); len_in_bounds : r.len ≤ length d }
+    row_with_texts refused able calls =
+        let m = calls wrote.shown wrote.left wrote.written wrote.met in
+        let row = redo s d d' x.answer x.used (value x.«record») (refused x.«record») wrote.written r b h (ap (λ (x : Read T). x.answer) e ∙ ea) (ap (λ (x : Read T). x.used) e ∙ eu) (ap (λ (x : Read T). value x.«record») e ∙ ev) able (rw wrote.shows at m.0) (sym wrote.leaves ∙ (rw wrote.shows at m.1)) wrote.is in
+        record { bytes_after = ap Some row.bytes_after; len_in_bounds = row.len_in_bounds }
 
 -- the beginning of a list, no longer than asked
 pub take_most : (n m : ℕ) (bs : List ℕ) → n ≤ m → length (take n bs) ≤ m
@@ -167,30 +180,36 @@ unfolding payload
 payload_none [] h = refl
 payload_none (c ∷ text) h = absurd (omega arith)
 
-pub payload_dash : (text : List ℕ) → length text ≡ 1 → payload text ≡ pick (eqb (get_or text 0 0) 0x2D) (Some []) None
-unfolding payload
-payload_dash [] h = absurd (omega arith)
-payload_dash (c ∷ []) h = refl
-payload_dash (c ∷ d ∷ text) h = absurd (omega arith)
+-- what finding a payload promises of the text, and of the buffer that it was read into
+abbrev pub Finds : List ℕ → List ℕ → Option ℕ → Type 0
+Finds text d o = record { text_value : payload text ≡ option_map (λ len. take len d) o; len_bound : IfSome o (λ len. len ≤ 4096) }
 
-pub payload_pairs : (text d d' : List ℕ) (len : ℕ) → (length text ≡ 0 → ⊥) → (length text ≡ 1 → ⊥) → length d ≡ 4096 → len ≡ length (pairs (length d) text) → d' ≡ put d 0 (pairs (length d) text) → len ≤ length d
-    → payload text ≡ pick (eqb (2 * len) (length text)) (Some (take len d')) None
+-- a length that is given where a test holds
+found_if : (t : Bool) (len : ℕ) (text d : List ℕ) → payload text ≡ pick t (Some (take len d)) None → len ≤ 4096 → Finds text d (then_some t len)
+found_if true len text d e h = record { text_value = e; len_bound = h }
+found_if false len text d e h = record { text_value = e; len_bound = tt }
+
+pub payload_dash : (text d : List ℕ) (o : Option ℕ) → length text ≡ 1 → o ≡ then_some (eqb (get_or text 0 0) 0x2D) 0 → Finds text d o
+unfolding payload
+payload_dash [] d o h e = absurd (omega arith)
+payload_dash (c ∷ []) d o h e = rw e (found_if (eqb c 0x2D) 0 (c ∷ []) d refl (omega arith))
+payload_dash (c ∷ b ∷ text) d o h e = absurd (omega arith)
+
+pub payload_pairs : (text d d' : List ℕ) (len : ℕ) (o : Option ℕ) → (length text ≡ 0 → ⊥) → (length text ≡ 1 → ⊥) → length d ≡ 4096 → len ≡ length (pairs (length d) text) → d' ≡ put d 0 (pairs (length d) text) → len ≤ length d
+    → o ≡ then_some (eqb (2 * len) (length text)) len → Finds text d' o
 unfolding payload all_pairs
-payload_pairs [] d d' len h g l e q r = absurd (h refl)
-payload_pairs (c ∷ []) d d' len h g l e q r = absurd (g refl)
-payload_pairs (x ∷ y ∷ text) d d' len h g l e q r =
+payload_pairs [] d d' len o h g l e q r t = absurd (h refl)
+payload_pairs (c ∷ []) d d' len o h g l e q r t = absurd (g refl)
+payload_pairs (x ∷ y ∷ text) d d' len o h g l e q r t =
     let bs = pairs 4096 (x ∷ y ∷ text) in
     let e' : len ≡ length bs = rw l at e in
     let q' : d' ≡ put d 0 bs = rw l at q in
     let got : take len d' ≡ bs = rw (q', e') (put_start d bs (omega arith)) in
-    rw (got, e')
+    rw t (found_if (eqb (2 * len) (length (x ∷ y ∷ text))) len (x ∷ y ∷ text) d' (rw (got, e')) (omega arith))
 
--- the row of a letter and a text, by its payload
-pub good_text : (letter : ℕ) (good : Bool) (text bs : List ℕ) → payload text ≡ pick good (Some bs) None → good ≡ true → option_and_then (row_for letter) (payload text) ≡ row_for letter bs
-good_text letter good text bs e g = rw (e, g)
-
-pub bad_text : (letter : ℕ) (good : Bool) (text bs : List ℕ) → payload text ≡ pick good (Some bs) None → good ≡ false → option_and_then (row_for letter) (payload text) ≡ None
-bad_text letter good text bs e g = rw (e, g)
+-- the row of a letter and a text, by the payload that was found
+pub text_row : (letter : ℕ) (text d : List ℕ) (o o' : Option ℕ) → payload text ≡ option_map (λ len. take len d) o → o ≡ o' → option_and_then (row_for letter) (payload text) ≡ option_and_then (row_for letter) (option_map (λ len. take len d) o')
+text_row letter text d o o' e h = rw (e, h)
 
 -- ---- the row of a line
 pub too_short : (line : List ℕ) → length line < 2 → line_row line ≡ None

@@ -2,13 +2,13 @@
 #![tactic(auto)]
 
 ghost use Rattle.std.specs.Prelude.{◌≡◌, ◌∷◌, [], ◌++◌, ◌+◌, ◌*◌, ◌<◌, ◌≤◌, length, take};
-ghost use Rattle.std.specs.Prelude.{None, Some};
+ghost use Rattle.std.specs.Prelude.{None, Some, IfSome, option_map};
 ghost use Rattle.octets.specs.Octets.{pick, put};
 ghost use Rattle.hex_text.specs.Hex.{decimal};
-ghost use Rattle.case_line.specs.Line.{row, row_u, row_f, row_s, row_n, row_o, row_p, row_for, payload, line_row, hex_or_dash, shown, printed, taken};
-ghost use Rattle.case_line.specs.Steps.{row_in, redone};
+ghost use Rattle.case_line.specs.Line.{row, row_for, payload, line_row, hex_or_dash, shown, printed, taken};
+ghost use Rattle.case_line.specs.Steps.{row_in, WroteRow};
 
-use answer::Answer;
+use answer::{Read, Written};
 use f_teid::Fteid;
 use fseid::Fseid;
 use node_id::NodeId;
@@ -71,184 +71,93 @@ fn put_row(out: &mut [u8], number: u8, used: usize, bs: &[u8]) -> usize
     end
 }
 
-// The row of a line, whose bytes are the first `len` of a lent buffer; not `known` where the line is another one.
+// The row of a line, whose bytes are the first `len` of a lent buffer.
 #[derive(Clone, Copy)]
 struct LineRow {
-    known: bool,
     number: u8,
     used: usize,
     len: usize,
 }
 
-impl LineRow {
-    const NONE: LineRow = LineRow {
-        known: false,
-        number: 0,
-        used: 0,
-        len: 0,
-    };
-}
-
-// The row of a payload that was read, and whose record was written again in `len` bytes.
-fn row_of(answer: Answer, used: usize, len: usize) -> LineRow
-    ensures { result ≡ redone answer used len }
+// The row of a payload that was read, once `write` has put the written form of its record into `bytes`.
+fn row_of<T: Copy, W: FnOnce(T, &mut [u8]) -> Written>(
+    read: Read<T>,
+    bytes: &mut [u8],
+    write: W,
+) -> LineRow
+    requires { W.IsAlwaysCallable write }
+    ensures { WroteRow W.FnOnce write read bytes.old result bytes.new }
 {
-    let number = answer.number();
+    let number = read.answer.number();
+    let written = write(read.record, bytes);
     LineRow {
-        known: true,
         number,
-        used,
-        len: octets::if_set(number == 0, len),
+        used: read.used,
+        len: octets::if_set(number == 0, written.len),
     }
 }
 
-// Reads and writes a UE IP Address.
-fn row_of_ue_ip_address(payload: &[u8], bytes: &mut [u8]) -> LineRow
+// The row of a payload, by the letter of its kind. The texts of a Node ID and of a PFD Contents are in the payload.
+fn row_for(letter: u8, payload: &[u8], bytes: &mut [u8]) -> Option<LineRow>
     requires { length payload.now ≤ length bytes.old }
-    ensures bytes_after { row_in result bytes.new ≡ Some (row_u payload.now) }
-    ensures len_in_bounds { result.len ≤ length bytes.old }
-{
-    let read = UeIpAddress::unmarshal(payload);
-    let answer = read.answer;
-    let record = read.record;
-    let written = record.marshal(bytes);
-    row_of(answer, read.used, written.len)
-}
-
-// Reads and writes an F-TEID.
-fn row_of_f_teid(payload: &[u8], bytes: &mut [u8]) -> LineRow
-    requires { length payload.now ≤ length bytes.old }
-    ensures bytes_after { row_in result bytes.new ≡ Some (row_f payload.now) }
-    ensures len_in_bounds { result.len ≤ length bytes.old }
-{
-    let read = Fteid::unmarshal(payload);
-    let answer = read.answer;
-    let record = read.record;
-    let written = record.marshal(bytes);
-    row_of(answer, read.used, written.len)
-}
-
-// Reads and writes an F-SEID.
-fn row_of_fseid(payload: &[u8], bytes: &mut [u8]) -> LineRow
-    requires { length payload.now ≤ length bytes.old }
-    ensures bytes_after { row_in result bytes.new ≡ Some (row_s payload.now) }
-    ensures len_in_bounds { result.len ≤ length bytes.old }
-{
-    let read = Fseid::unmarshal(payload);
-    let answer = read.answer;
-    let record = read.record;
-    let written = record.marshal(bytes);
-    row_of(answer, read.used, written.len)
-}
-
-// Reads and writes a Node ID. Its name is in the payload.
-fn row_of_node_id(payload: &[u8], bytes: &mut [u8]) -> LineRow
-    requires { length payload.now ≤ length bytes.old }
-    ensures bytes_after { row_in result bytes.new ≡ Some (row_n payload.now) }
-    ensures len_in_bounds { result.len ≤ length bytes.old }
-{
-    let read = NodeId::unmarshal(payload);
-    let answer = read.answer;
-    let record = read.record;
-    let written = record.marshal(payload, bytes);
-    row_of(answer, read.used, written.len)
-}
-
-// Reads and writes an Outer Header Creation.
-fn row_of_outer_header_creation(payload: &[u8], bytes: &mut [u8]) -> LineRow
-    requires { length payload.now ≤ length bytes.old }
-    ensures bytes_after { row_in result bytes.new ≡ Some (row_o payload.now) }
-    ensures len_in_bounds { result.len ≤ length bytes.old }
-{
-    let read = OuterHeaderCreation::unmarshal(payload);
-    let answer = read.answer;
-    let record = read.record;
-    let written = record.marshal(bytes);
-    row_of(answer, read.used, written.len)
-}
-
-// Reads and writes a PFD Contents. Its texts are in the payload.
-fn row_of_pfd_contents(payload: &[u8], bytes: &mut [u8]) -> LineRow
-    requires { length payload.now ≤ length bytes.old }
-    ensures bytes_after { row_in result bytes.new ≡ Some (row_p payload.now) }
-    ensures len_in_bounds { result.len ≤ length bytes.old }
-{
-    let read = PfdContents::unmarshal(payload);
-    let answer = read.answer;
-    let record = read.record;
-    let written = record.marshal(payload, bytes);
-    row_of(answer, read.used, written.len)
-}
-
-// The row of a payload, by the letter of its kind.
-fn row_for(letter: u8, payload: &[u8], bytes: &mut [u8]) -> LineRow
-    requires { length payload.now ≤ length bytes.old }
-    ensures bytes_after { row_in result bytes.new ≡ row_for letter payload.now }
-    ensures len_in_bounds { result.len ≤ length bytes.old }
+    ensures bytes_after { option_map (row_in bytes.new) result ≡ row_for letter payload.now }
+    ensures len_in_bounds { IfSome result (λ row. row.len ≤ length bytes.old) }
 {
     match letter {
-        b'U' => row_of_ue_ip_address(payload, bytes),
-        b'F' => row_of_f_teid(payload, bytes),
-        b'S' => row_of_fseid(payload, bytes),
-        b'N' => row_of_node_id(payload, bytes),
-        b'O' => row_of_outer_header_creation(payload, bytes),
-        b'P' => row_of_pfd_contents(payload, bytes),
-        _ => LineRow::NONE,
+        b'U' => Some(row_of(UeIpAddress::unmarshal(payload), bytes, UeIpAddress::marshal)),
+        b'F' => Some(row_of(Fteid::unmarshal(payload), bytes, Fteid::marshal)),
+        b'S' => Some(row_of(Fseid::unmarshal(payload), bytes, Fseid::marshal)),
+        b'N' => Some(row_of(
+            NodeId::unmarshal(payload),
+            bytes,
+            |r, out| r.marshal(payload, out),
+        )),
+        b'O' => Some(row_of(
+            OuterHeaderCreation::unmarshal(payload),
+            bytes,
+            OuterHeaderCreation::marshal,
+        )),
+        b'P' => Some(row_of(
+            PfdContents::unmarshal(payload),
+            bytes,
+            |r, out| r.marshal(payload, out),
+        )),
+        _ => None,
     }
 }
 
-// Whether a text gives a payload, and how long that is.
-#[derive(Clone, Copy)]
-struct Found {
-    good: bool,
-    len: usize,
-}
-
-// Reads the payload of a line's text into `bytes`.
-fn find_payload(text: &[u8], bytes: &mut [u8]) -> Found
+// Reads the payload of a line's text into `bytes`, and answers its length, where the text gives one.
+fn find_payload(text: &[u8], bytes: &mut [u8]) -> Option<usize>
     requires { length bytes.old ≡ 4096 }
-    ensures text_value { payload text.now ≡ pick result.good (Some (take result.len bytes.new)) None }
-    ensures len_bound { result.len ≤ 4096 }
+    ensures text_value { payload text.now ≡ option_map (λ len. take len bytes.new) result }
+    ensures len_bound { IfSome result (λ len. len ≤ 4096) }
 {
     let n = text.len();
     if n == 0 {
-        return Found {
-            good: false,
-            len: 0,
-        };
+        return None;
     }
     if n == 1 {
-        return Found {
-            good: text[0] == b'-',
-            len: 0,
-        };
+        return (text[0] == b'-').then_some(0);
     }
     let len = hex_text::parse(text, bytes);
-    Found {
-        good: 2 * len == n,
-        len,
-    }
+    (2 * len == n).then_some(len)
 }
 
 // The row of a line, given without its 0A.
-fn row_of_line(line: &[u8], bytes: &mut [u8]) -> LineRow
+fn row_of_line(line: &[u8], bytes: &mut [u8]) -> Option<LineRow>
     requires { length bytes.old ≡ 4096 }
-    ensures bytes_after { row_in result bytes.new ≡ line_row line.now }
-    ensures len_bound { result.len ≤ 4096 }
+    ensures bytes_after { option_map (row_in bytes.new) result ≡ line_row line.now }
+    ensures len_bound { IfSome result (λ row. row.len ≤ 4096) }
 {
     if line.len() < 2 {
-        return LineRow::NONE;
+        return None;
     }
     if line[1] != b' ' {
-        return LineRow::NONE;
+        return None;
     }
     let mut payload = [0u8; 4096];
-    let found = find_payload(&line[2..], &mut payload);
-    let len = found.len;
-    if found.good {
-        return row_for(line[0], &payload[..len], bytes);
-    }
-    LineRow::NONE
+    let len = find_payload(&line[2..], &mut payload)?;
+    row_for(line[0], &payload[..len], bytes)
 }
 
 // Puts what is printed for a line, given without its 0A, at the start of an output, and answers how many bytes that is: none where
@@ -260,10 +169,8 @@ pub fn answer_line(line: &[u8], out: &mut [u8]) -> usize
     ensures line_len_bound { length (printed line.now) ≤ 8218 }
 {
     let mut bytes = [0u8; 4096];
-    let row = row_of_line(line, &mut bytes);
-    let len = row.len;
-    if row.known {
-        return put_row(out, row.number, row.used, &bytes[..len]);
+    match row_of_line(line, &mut bytes) {
+        Some(row) => put_row(out, row.number, row.used, &bytes[..row.len]),
+        None => put_other(out),
     }
-    put_other(out)
 }
