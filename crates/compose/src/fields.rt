@@ -1,5 +1,6 @@
 // The rows of Node IDs and PFD Contents: their fields, and the rows of payloads that are read.
 use crate::written;
+use answer::{Read, Written};
 use details::{refusals, texted};
 use node_id::NodeId;
 use pfd_contents::PfdContents;
@@ -34,14 +35,24 @@ fn put_brief(out: &mut [u8], at: usize, count: usize) -> usize {
     rows::put(out, at, b"0 # -\n", &[rows::count(count)], b"")
 }
 
-// Reads a Node ID, and puts the row of that.
-pub(crate) fn put_node_id_payload(
+// Puts the row of a payload that was read. `probe` has a function of this kind of its own: a public one for both may ask nothing of the
+// closures that it is given.
+pub(crate) fn put_payload<
+    T: Copy,
+    W: FnOnce(T, &[u8], &mut [u8]) -> Written,
+    F: FnOnce(&mut [u8], usize, &[u8], T, bool) -> usize,
+>(
     out: &mut [u8],
     at: usize,
     payload: &[u8],
     is_brief: bool,
-) -> usize {
-    let read = NodeId::unmarshal(payload);
+    read: Read<T>,
+    marshal: W,
+    put_fields: F,
+) -> usize
+    requires marshal { W.IsAlwaysCallable marshal }
+    requires put_fields { F.IsAlwaysCallable put_fields }
+{
     let answer = read.answer;
     if answer.number() != 0 {
         return refusals::put_unread(out, at, answer);
@@ -50,32 +61,9 @@ pub(crate) fn put_node_id_payload(
         return put_brief(out, at, read.used);
     }
     let mut wire = written::buffer();
-    let record = read.record;
-    let written = record.marshal(payload, &mut wire);
+    let written = marshal(read.record, payload, &mut wire);
     let end = put_written(out, at, read.used, texts::part(&wire, 0, written.len));
-    put_node_id(out, end, payload, record, true)
-}
-
-// Reads a PFD Contents, and puts the row of that.
-pub(crate) fn put_pfd_contents_payload(
-    out: &mut [u8],
-    at: usize,
-    payload: &[u8],
-    is_brief: bool,
-) -> usize {
-    let read = PfdContents::unmarshal(payload);
-    let answer = read.answer;
-    if answer.number() != 0 {
-        return refusals::put_unread(out, at, answer);
-    }
-    if is_brief {
-        return put_brief(out, at, read.used);
-    }
-    let mut wire = written::buffer();
-    let record = read.record;
-    let written = record.marshal(payload, &mut wire);
-    let end = put_written(out, at, read.used, texts::part(&wire, 0, written.len));
-    put_pfd_contents(out, end, payload, record, true)
+    put_fields(out, end, payload, read.record, true)
 }
 
 // Puts what was used and is written, up to the bar before the fields.

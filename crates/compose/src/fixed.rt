@@ -158,20 +158,6 @@ fn flag_set(call: usize) -> OuterHeaderCreationFlags {
     }
 }
 
-fn with_ctag(record: OuterHeaderCreation, tag: Option<u32>) -> OuterHeaderCreation {
-    match tag {
-        Some(tag) => record.with_ctag(tag),
-        None => record,
-    }
-}
-
-fn with_stag(record: OuterHeaderCreation, tag: Option<u32>) -> OuterHeaderCreation {
-    match tag {
-        Some(tag) => record.with_stag(tag),
-        None => record,
-    }
-}
-
 // A record with the tags of its line, in the order of the line.
 fn with_tags(
     record: OuterHeaderCreation,
@@ -180,9 +166,11 @@ fn with_tags(
     stag_first: bool,
 ) -> OuterHeaderCreation {
     if stag_first {
-        return with_ctag(with_stag(record, stag), ctag);
+        let record = stag.map_or(record, |tag| record.with_stag(tag));
+        return ctag.map_or(record, |tag| record.with_ctag(tag));
     }
-    with_stag(with_ctag(record, ctag), stag)
+    let record = ctag.map_or(record, |tag| record.with_ctag(tag));
+    stag.map_or(record, |tag| record.with_stag(tag))
 }
 
 // The record of a constructor, before its tags.

@@ -1,6 +1,10 @@
 // The row of a record line: a call, and words behind it.
 use crate::seen::{Seen, Values};
 use crate::{calls, f_teid_line, fixed, fixed_rows, keys, node_id_line, pfd_line, seen};
+use f_teid::Fteid;
+use fseid::Fseid;
+use outer_header_creation::OuterHeaderCreation;
+use ue_ip_address::UeIpAddress;
 
 // How many bytes a good line has at most, as many as a payload line.
 pub(crate) const LONGEST: usize = 131202;
@@ -46,12 +50,49 @@ fn put_row(
 // The row of a record of fixed fields.
 fn put_fixed(out: &mut [u8], at: usize, call: usize, seen: Seen, values: &Values) -> usize {
     match call {
-        0..=2 => fixed_rows::put_ue_ip_address(out, at, fixed::ue_ip_address(call, seen, values)),
-        3..=11 => fixed_rows::put_f_teid(out, at, fixed::f_teid(call, seen, values)),
-        13 | 14 => fixed_rows::put_fseid(out, at, fixed::fseid(call, seen, values)),
+        0..=2 => {
+            let record = fixed::ue_ip_address(call, seen, values);
+            fixed_rows::put(
+                out,
+                at,
+                record,
+                UeIpAddress::marshal,
+                &details::fixed::UE_IP_ADDRESS,
+                details::fixed::ue_ip_address,
+            )
+        }
+        3..=11 => {
+            let record = fixed::f_teid(call, seen, values);
+            fixed_rows::put(
+                out,
+                at,
+                record,
+                Fteid::marshal,
+                &details::fixed::F_TEID,
+                details::fixed::f_teid,
+            )
+        }
+        13 | 14 => {
+            let record = fixed::fseid(call, seen, values);
+            fixed_rows::put(
+                out,
+                at,
+                record,
+                Fseid::marshal,
+                &details::fixed::FSEID,
+                details::fixed::fseid,
+            )
+        }
         _ => {
             let record = fixed::outer_header_creation(call, seen, values);
-            fixed_rows::put_outer_header_creation(out, at, record)
+            fixed_rows::put(
+                out,
+                at,
+                record,
+                OuterHeaderCreation::marshal,
+                &details::fixed::OUTER_HEADER_CREATION,
+                details::fixed::outer_header_creation,
+            )
         }
     }
 }

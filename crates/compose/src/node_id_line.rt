@@ -38,9 +38,18 @@ pub(crate) fn put(
     }
     let is_brief = seen.has(keys::BRIEF);
     if call == calls::N_READ {
-        return fields::put_node_id_payload(out, at, texts::part(texts, 0, len), is_brief);
+        let payload = texts::part(texts, 0, len);
+        return fields::put_payload(
+            out,
+            at,
+            payload,
+            is_brief,
+            NodeId::unmarshal(payload),
+            NodeId::marshal,
+            fields::put_node_id,
+        );
     }
-    written::put_node_id(
+    written::put(
         out,
         at,
         record_of(seen, values),
@@ -48,5 +57,7 @@ pub(crate) fn put(
         values[keys::ROOM],
         calls::has_places(call),
         is_brief,
+        NodeId::marshal,
+        fields::put_node_id,
     )
 }

@@ -18,7 +18,17 @@ fn put_built(
     if answer.number() != 0 {
         return refusals::put_unmade(out, at, answer);
     }
-    written::put_pfd_contents(out, at, built.record, texts, room, is_raw, is_brief)
+    written::put(
+        out,
+        at,
+        built.record,
+        texts,
+        room,
+        is_raw,
+        is_brief,
+        PfdContents::marshal,
+        fields::put_pfd_contents,
+    )
 }
 
 // Texts that are longer than the buffer are refused here, as they would be there.
@@ -39,7 +49,16 @@ pub(crate) fn put(
     }
     let is_brief = seen.has(keys::BRIEF);
     if call == calls::P_READ {
-        return fields::put_pfd_contents_payload(out, at, texts::part(texts, 0, len), is_brief);
+        let payload = texts::part(texts, 0, len);
+        return fields::put_payload(
+            out,
+            at,
+            payload,
+            is_brief,
+            PfdContents::unmarshal(payload),
+            PfdContents::marshal,
+            fields::put_pfd_contents,
+        );
     }
     let built = pfd_calls::built(line, call, values[keys::FLAGS], texts, len, &mut starts);
     let is_raw = calls::has_places(call);

@@ -4,6 +4,7 @@ use ie::{Ie, IesRead, Row};
 
 const KEYS: [u8; 11] = *b"rows= zero=";
 
+// A key stays a number, which is no less plain than an enum here: it is the key's place in that list, and its bit in the set of a line.
 const ROWS: usize = 0;
 
 const ZERO: usize = 1;

@@ -1,11 +1,21 @@
 // The fields that the words of a line give: each a key alone, or a key and a number.
-// How the number of a key is written: in so many bytes of hex; not at all, for a key alone; or in decimal.
-pub(crate) const ALONE: u8 = 0;
+// How the number of a key is written: not at all, for a key alone; in decimal; or in so many bytes of hex.
+#[derive(Clone, Copy)]
+pub(crate) enum Form {
+    Alone,
+    Decimal,
+    Hex(usize),
+}
 
-pub(crate) const DECIMAL: u8 = 255;
-
-// In place of that for a word with no known key.
-const UNKNOWN: u8 = 254;
+impl Form {
+    fn number(self, text: &[u8]) -> Option<u64> {
+        match self {
+            Form::Alone => Some(0),
+            Form::Decimal => words::decimal(text),
+            Form::Hex(width) => words::hexadecimal(text, width),
+        }
+    }
+}
 
 // The numbers of a line's keys, each at the place of its key in the list of all.
 pub(crate) type Values = [u64; 16];
@@ -41,18 +51,6 @@ impl Fields {
     }
 }
 
-fn form_of(forms: &[u8], key: usize) -> u8 {
-    forms.get(key).copied().unwrap_or(UNKNOWN)
-}
-
-fn number(text: &[u8], form: u8) -> Option<u64> {
-    match form {
-        ALONE => Some(0),
-        DECIMAL => words::decimal(text),
-        _ => words::hexadecimal(text, form as usize),
-    }
-}
-
 fn note(values: &mut Values, key: usize, x: u64) {
     if key < 16 {
         values[key] = x;
@@ -60,11 +58,17 @@ fn note(values: &mut Values, key: usize, x: u64) {
 }
 
 // Looks at all words of a text, by a list of keys and how the number of each is written. Each has to be good.
-pub(crate) fn look(text: &[u8], keys: &[u8], forms: &[u8], values: &mut Values) -> Option<Fields> {
+pub(crate) fn look(
+    text: &[u8],
+    keys: &[u8],
+    forms: &[Form],
+    values: &mut Values,
+) -> Option<Fields> {
     let mut fields = Fields::NONE;
     for word in text.split(|b| *b == b' ') {
         let key = words::index(keys, words::key(word));
-        let x = number(words::value(word), form_of(forms, key))?;
+        let form = forms.get(key).copied()?;
+        let x = form.number(words::value(word))?;
         note(values, key, x);
         fields = fields.with(key)?;
     }

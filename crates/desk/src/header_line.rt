@@ -1,6 +1,6 @@
 // Message headers: one that is read, in hex, or the fields of one that is written.
 use crate::fields;
-use crate::fields::{ALONE, DECIMAL, Fields, Values};
+use crate::fields::{Fields, Form, Values};
 use answer::Written;
 use details::{fixed, refusals};
 use header::Header;
@@ -9,8 +9,20 @@ use types::{Seid, SequenceNumber};
 // The keys of a record, and how the number of each is written.
 const KEYS: [u8; 46] = *b"ver= fo mp s type= len= seid= seq= prio= room=";
 
-const FORMS: [u8; 10] = [1, ALONE, ALONE, ALONE, 1, 2, 8, 4, 1, DECIMAL];
+const FORMS: [Form; 10] = [
+    Form::Hex(1),
+    Form::Alone,
+    Form::Alone,
+    Form::Alone,
+    Form::Hex(1),
+    Form::Hex(2),
+    Form::Hex(8),
+    Form::Hex(4),
+    Form::Hex(1),
+    Form::Decimal,
+];
 
+// A key stays a number, which is no less plain than an enum here: it is the key's place in both lists, and its bit in the set of a line.
 const VER: usize = 0;
 
 const FO: usize = 1;
@@ -47,6 +59,7 @@ pub(crate) fn put(out: &mut [u8], at: usize, text: &[u8], payload: &mut [u8]) ->
     put_written(out, at, record_of(fields, &values), values[ROOM] as usize)
 }
 
+// `probe` has a function of this kind of its own: a public one for both may ask nothing of the closures that it is given.
 fn put_read(out: &mut [u8], at: usize, payload: &[u8]) -> usize {
     let read = Header::unmarshal(payload);
     let answer = read.answer;

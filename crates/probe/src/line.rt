@@ -1,11 +1,14 @@
 // The row of a payload line: a letter, a space, and the payload in hex, a dash for the empty one. With `V` before it a line asks for
 // the strict verdict instead.
+use answer::{Read, Written};
 use details::{fixed, refusals, texted};
 use f_teid::Fteid;
 use fseid::Fseid;
 use node_id::NodeId;
 use outer_header_creation::OuterHeaderCreation;
 use pfd_contents::PfdContents;
+use rows::Value;
+use std::convert::AsSlice;
 use ue_ip_address::UeIpAddress;
 
 // How many bytes a good line has at most: a letter, a space and 65,600 digit pairs.
@@ -74,63 +77,78 @@ fn put_yes_or_no(out: &mut [u8], at: usize, is_yes: bool) -> usize {
 // The row of a payload, by its letter.
 fn put_row(out: &mut [u8], at: usize, letter: u8, payload: &[u8]) -> usize {
     match letter {
-        b'U' => put_ue_ip_address(out, at, payload),
-        b'F' => put_f_teid(out, at, payload),
-        b'S' => put_fseid(out, at, payload),
-        b'N' => put_node_id(out, at, payload),
-        b'O' => put_outer_header_creation(out, at, payload),
-        b'P' => put_pfd_contents(out, at, payload),
+        b'U' => put_fixed(
+            out,
+            at,
+            UeIpAddress::unmarshal(payload),
+            UeIpAddress::marshal,
+            &fixed::UE_IP_ADDRESS,
+            fixed::ue_ip_address,
+        ),
+        b'F' => put_fixed(
+            out,
+            at,
+            Fteid::unmarshal(payload),
+            Fteid::marshal,
+            &fixed::F_TEID,
+            fixed::f_teid,
+        ),
+        b'S' => put_fixed(
+            out,
+            at,
+            Fseid::unmarshal(payload),
+            Fseid::marshal,
+            &fixed::FSEID,
+            fixed::fseid,
+        ),
+        b'N' => put_texted(
+            out,
+            at,
+            payload,
+            NodeId::unmarshal(payload),
+            NodeId::marshal,
+            put_node_id,
+        ),
+        b'O' => put_fixed(
+            out,
+            at,
+            OuterHeaderCreation::unmarshal(payload),
+            OuterHeaderCreation::marshal,
+            &fixed::OUTER_HEADER_CREATION,
+            fixed::outer_header_creation,
+        ),
+        b'P' => put_texted(
+            out,
+            at,
+            payload,
+            PfdContents::unmarshal(payload),
+            PfdContents::marshal,
+            put_pfd_contents,
+        ),
         b'T' => put_text(out, at, payload),
         _ => rows::put_other(out, at),
     }
 }
 
-fn put_ue_ip_address(out: &mut [u8], at: usize, payload: &[u8]) -> usize {
-    let read = UeIpAddress::unmarshal(payload);
+// The row of a payload of fixed fields. `compose` and `desk` have functions of this kind of their own: a public one for all may ask
+// nothing of the closures that it is given.
+fn put_fixed<
+    T: Copy,
+    W: FnOnce(T, &mut [u8]) -> Written,
+    A: AsSlice<Value> + Copy,
+    V: FnOnce(T, usize, usize) -> A,
+>(out: &mut [u8], at: usize, read: Read<T>, marshal: W, words: &[u8], values: V) -> usize
+    requires marshal { W.IsAlwaysCallable marshal }
+    requires values { V.IsAlwaysCallable values }
+{
     let answer = read.answer;
     if answer.number() != 0 {
         return refusals::put_unread(out, at, answer);
     }
     let mut wire = [0u8; 64];
-    let written = read.record.marshal(&mut wire);
-    let values = fixed::ue_ip_address(read.record, read.used, written.len);
-    rows::put(out, at, &fixed::UE_IP_ADDRESS, &values, &wire)
-}
-
-fn put_f_teid(out: &mut [u8], at: usize, payload: &[u8]) -> usize {
-    let read = Fteid::unmarshal(payload);
-    let answer = read.answer;
-    if answer.number() != 0 {
-        return refusals::put_unread(out, at, answer);
-    }
-    let mut wire = [0u8; 64];
-    let written = read.record.marshal(&mut wire);
-    let values = fixed::f_teid(read.record, read.used, written.len);
-    rows::put(out, at, &fixed::F_TEID, &values, &wire)
-}
-
-fn put_fseid(out: &mut [u8], at: usize, payload: &[u8]) -> usize {
-    let read = Fseid::unmarshal(payload);
-    let answer = read.answer;
-    if answer.number() != 0 {
-        return refusals::put_unread(out, at, answer);
-    }
-    let mut wire = [0u8; 64];
-    let written = read.record.marshal(&mut wire);
-    let values = fixed::fseid(read.record, read.used, written.len);
-    rows::put(out, at, &fixed::FSEID, &values, &wire)
-}
-
-fn put_outer_header_creation(out: &mut [u8], at: usize, payload: &[u8]) -> usize {
-    let read = OuterHeaderCreation::unmarshal(payload);
-    let answer = read.answer;
-    if answer.number() != 0 {
-        return refusals::put_unread(out, at, answer);
-    }
-    let mut wire = [0u8; 64];
-    let written = read.record.marshal(&mut wire);
-    let values = fixed::outer_header_creation(read.record, read.used, written.len);
-    rows::put(out, at, &fixed::OUTER_HEADER_CREATION, &values, &wire)
+    let written = marshal(read.record, &mut wire);
+    let values = values(read.record, read.used, written.len);
+    rows::put(out, at, words, values.as_slice(), &wire)
 }
 
 // The row up to the bar before the fields.
@@ -139,33 +157,34 @@ fn put_written(out: &mut [u8], at: usize, used: usize, wire: &[u8]) -> usize {
     rows::put(out, at, b"0 # # | ", &values, wire)
 }
 
-fn put_node_id(out: &mut [u8], at: usize, payload: &[u8]) -> usize {
-    let read = NodeId::unmarshal(payload);
+// The row of a payload with texts, whose fields are put behind what is written.
+fn put_texted<
+    T: Copy,
+    W: FnOnce(T, &[u8], &mut [u8]) -> Written,
+    F: FnOnce(&mut [u8], usize, &[u8], T) -> usize,
+>(out: &mut [u8], at: usize, payload: &[u8], read: Read<T>, marshal: W, put_fields: F) -> usize
+    requires marshal { W.IsAlwaysCallable marshal }
+    requires put_fields { F.IsAlwaysCallable put_fields }
+{
     let answer = read.answer;
     if answer.number() != 0 {
         return refusals::put_unread(out, at, answer);
     }
     let mut wire = [0u8; 65535];
-    let record = read.record;
-    let written = record.marshal(payload, &mut wire);
+    let written = marshal(read.record, payload, &mut wire);
     let end = put_written(out, at, read.used, texts::part(&wire, 0, written.len));
-    let words = texted::NODE_ID;
-    let row = rows::row(&words, texted::node_id_type(record));
-    rows::put(out, end, row, &texted::node_id(record, true), payload)
+    put_fields(out, end, payload, read.record)
 }
 
-fn put_pfd_contents(out: &mut [u8], at: usize, payload: &[u8]) -> usize {
-    let read = PfdContents::unmarshal(payload);
-    let answer = read.answer;
-    if answer.number() != 0 {
-        return refusals::put_unread(out, at, answer);
-    }
-    let mut wire = [0u8; 65535];
-    let record = read.record;
-    let written = record.marshal(payload, &mut wire);
-    let end = put_written(out, at, read.used, texts::part(&wire, 0, written.len));
+fn put_node_id(out: &mut [u8], at: usize, payload: &[u8], record: NodeId) -> usize {
+    let words = texted::NODE_ID;
+    let row = rows::row(&words, texted::node_id_type(record));
+    rows::put(out, at, row, &texted::node_id(record, true), payload)
+}
+
+fn put_pfd_contents(out: &mut [u8], at: usize, payload: &[u8], record: PfdContents) -> usize {
     let values = texted::pfd_contents(record, true);
-    rows::put(out, end, &texted::PFD_CONTENTS, &values, payload)
+    rows::put(out, at, &texted::PFD_CONTENTS, &values, payload)
 }
 
 // What is good of a text, and how many bytes behind that are bad.
