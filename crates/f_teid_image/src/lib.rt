@@ -34,6 +34,7 @@ const TEID_END: usize = Fteid::MIN_LEN + 4;
 
 // Puts the image of a read that is done, from the back to the front. The test tells the compiler that there is room, so that no put
 // tests it again.
+#[inline(always)]
 fn put_image(out: &mut [u8], used: usize, record: Fteid)
     ensures { out.new ≡ put out.old 0 (head Done used ++ record_image «record») }
 {
@@ -73,6 +74,7 @@ fn put_image(out: &mut [u8], used: usize, record: Fteid)
 // passed on as a constant, so that the compiler knows the places and the widths.
 
 // Reads a payload with CH into an image, by whether CHID is set.
+#[inline(always)]
 fn read_chosen(payload: Payload<1>, image: &mut [u8], chid: bool) -> u64
     requires ch_set { bit 2 (get_or payload.bytes.now 0 0) ≡ true }
     requires chid_of_flags { chid ≡ bit 3 (get_or payload.bytes.now 0 0) }
@@ -104,6 +106,7 @@ fn read_chosen(payload: Payload<1>, image: &mut [u8], chid: bool) -> u64
 }
 
 // Reads a payload without CH and CHID that has its TEID into an image, by V4 and V6.
+#[inline(always)]
 fn read_concrete(payload: Payload<5>, image: &mut [u8], v4: bool, v6: bool) -> u64
     requires no_ch { bit 2 (get_or payload.bytes.now 0 0) ≡ false }
     requires no_chid { bit 3 (get_or payload.bytes.now 0 0) ≡ false }

@@ -101,6 +101,7 @@ pub fn number_or_zero<const W: usize>(bytes: &[u8], at: usize, width: usize, giv
 }
 
 // Puts what an image begins with: the answer's number and values, and a count. From the back to the front, as all of an image.
+#[inline(always)]
 pub fn put_head(out: &mut [u8], answer: Answer, count: usize)
     ensures { out.new ≡ put out.old 0 (head answer count) }
 {

@@ -11,7 +11,7 @@ use Rattle.answer.specs.declared.Read.{Read}
 use Rattle.node_id.specs.NodeId.{refused}
 use Rattle.image.specs.Image.{head}
 use Rattle.image.proofs.Laws.{answers}
-use Rattle.node_id_image.specs.NodeIdImage.{record_image, image_of}
+use Rattle.node_id_image.specs.NodeIdImage.{record_image, image_of, fields_of, bytes_of}
 
 -- k is the number of what was read, and o' the memory o with its image
 abbrev pub Answers : List ℕ → ℕ → List ℕ → Read NodeId → Type 0
@@ -26,5 +26,6 @@ module _ (says : List ℕ → Read NodeId) (s o : List ℕ) {o' : List ℕ} wher
   unfolding refused
   refusal a p e = same (refused a) p e
 
-  pub accepted : {k n : ℕ} {x : NodeId} → (k ≡ 0) × (o' ≡ put o 0 (head Done n ++ record_image x)) → record { answer = Done; used = n; «record» = x } ≡ says s → Answers o k o' (says s)
+  pub accepted : {k n : ℕ} {x : NodeId} → (k ≡ 0) × (o' ≡ put o 0 (head Done n ++ bytes_of (fields_of x))) → record { answer = Done; used = n; «record» = x } ≡ says s → Answers o k o' (says s)
+  unfolding record_image
   accepted p e = same _ p e

@@ -7,7 +7,7 @@ ghost use Rattle.answer.specs.Paper.{number_of};
 ghost use Rattle.octets.specs.Octets.{put};
 ghost use Rattle.image.specs.Image.{head, read_number, read_image, long_enough, write_number, write_output, write_report};
 ghost use Rattle.node_id.specs.NodeId.{refused, read_fqdn, read};
-ghost use Rattle.node_id_image.specs.NodeIdImage.{size, fields_of, record_of, record_image, image_of, record_at, writes, stores};
+ghost use Rattle.node_id_image.specs.NodeIdImage.{size, bytes_of, fields_of, record_of, record_image, image_of, record_at, writes, stores};
 
 use answer::{Answer, Written};
 use kind::Payload;
@@ -80,14 +80,14 @@ impl From<Fields> for NodeId {
 
 // Puts the image of a read that is done, from the back to the front, and returns 0, the answer's number. The test tells the compiler
 // that there is room, so that no put tests it again.
-fn put_image(out: &mut [u8], used: usize, record: NodeId) -> u64
+#[inline(always)]
+fn put_fields(out: &mut [u8], used: usize, fields: Fields) -> u64
     ensures value { result ≡ 0 }
-    ensures out_after { out.new ≡ put out.old 0 (head Done used ++ record_image «record») }
+    ensures out_after { out.new ≡ put out.old 0 (head Done used ++ bytes_of fields) }
 {
     if out.len() < SIZE {
         return 0;
     }
-    let fields = Fields::from(record);
     octets::put_bytes(out, IPV6, &fields.ipv6_address);
     octets::put_bytes(out, IPV4, &fields.ipv4_address);
     image::put_u64(out, LEN, fields.name.len as u64);
@@ -126,10 +126,12 @@ fn put_short(out: &mut [u8], field: u8, expected: usize, actual: usize) -> u64
     )
 }
 
-// A read goes straight into the image, without the record and the copies that `NodeId::unmarshal` makes, by the type.
+// A read goes straight into the image, without the record and the copies that `NodeId::unmarshal` makes, by the type. An address goes
+// by its fields alone: from the enum of a record the compiler would take it in pieces.
 
 // Reads a payload of type 2 into an image: all behind the type is the name. Only here is a function called, and a stack frame
 // needed.
+#[inline(never)]
 fn read_name(payload: Payload<1>, image: &mut [u8]) -> u64
     ensures value { result ≡ number_of (read_fqdn payload.entry.bytes.now).answer }
     ensures image_after { image.new ≡ put image.old 0 (image_of (read_fqdn payload.entry.bytes.now)) }
@@ -142,7 +144,7 @@ fn read_name(payload: Payload<1>, image: &mut [u8]) -> u64
         let bad = text::bad_length(name, good);
         return put_refused(image, Answer::NotUtf8 { place, bad });
     }
-    put_image(image, n, NodeId::new_fqdn(1, good))
+    put_fields(image, n, Fields::from(NodeId::new_fqdn(1, good)))
 }
 
 // Reads a payload that has its type.
@@ -153,11 +155,25 @@ fn read_typed(payload: Payload<1>, image: &mut [u8]) -> u64
     let bytes = payload.bytes;
     match bytes[0] {
         0 => match octets::address(texts::part(bytes, 1, 4)) {
-            Some(address) => put_image(image, 5, NodeId::Ipv4(address)),
+            Some(ipv4_address) => {
+                let fields = Fields {
+                    type_byte: 0,
+                    ipv4_address,
+                    ..EMPTY
+                };
+                put_fields(image, 5, fields)
+            }
             None => put_short(image, 1, 5, bytes.len()),
         },
         1 => match octets::address(texts::part(bytes, 1, 16)) {
-            Some(address) => put_image(image, 17, NodeId::Ipv6(address)),
+            Some(ipv6_address) => {
+                let fields = Fields {
+                    type_byte: 1,
+                    ipv6_address,
+                    ..EMPTY
+                };
+                put_fields(image, 17, fields)
+            }
             None => put_short(image, 2, 17, bytes.len()),
         },
         2 => read_name(payload, image),

@@ -1,5 +1,5 @@
 // Fields in wire form, a two-byte length and UTF-8 text each, and the lists that can be.
-ghost use Rattle.std.specs.Prelude.{◌≡◌};
+ghost use Rattle.std.specs.Prelude.{◌≡◌, ◌+◌, ◌≤◌, length};
 ghost use Rattle.text_fields.specs.Fields.{field_at, entries, is_empty, is_list};
 
 use crate::{Fault, TextList};
@@ -12,17 +12,12 @@ pub struct Run {
     pub next: usize,
 }
 
-// The text of the field at a place, where there is one.
-pub(crate) fn field_at(s: &[u8], at: usize) -> Result<Option<Text>, Fault>
+// The field at a place that has its two length bytes.
+fn whole_field(s: &[u8], at: usize) -> Result<Option<Text>, Fault>
+    requires { at + 2 ≤ length s.now }
     ensures { result ≡ field_at s.now at }
 {
     let n = s.len();
-    if n < 2 {
-        return Ok(None);
-    }
-    if n - 2 < at {
-        return Ok(None);
-    }
     let place = at + 2;
     let len = octets::number(&s[at..place]) as usize;
     let end = place + len;
@@ -39,7 +34,24 @@ pub(crate) fn field_at(s: &[u8], at: usize) -> Result<Option<Text>, Fault>
     Ok(Some(Text { place, len }))
 }
 
+// The text of the field at a place, where there is one. That there is none is asked where it is called: the absent fields of a record
+// cost no call.
+#[inline(always)]
+pub(crate) fn field_at(s: &[u8], at: usize) -> Result<Option<Text>, Fault>
+    ensures { result ≡ field_at s.now at }
+{
+    let n = s.len();
+    if n < 2 {
+        return Ok(None);
+    }
+    if n - 2 < at {
+        return Ok(None);
+    }
+    whole_field(s, at)
+}
+
 // The fields from a place on while there are any, at most `most`.
+#[inline(always)]
 pub(crate) fn entries_at(s: &[u8], at: usize, most: usize) -> Result<Run, Fault>
     ensures { result ≡ entries most s.now at 0 }
 {

@@ -7,6 +7,7 @@ use crate::{Fault, Step, TextList};
 use texts::Text;
 
 // A text under bit k of the flags.
+#[inline(always)]
 pub fn read_text(s: &[u8], at: usize, flags: u8, k: u8) -> Result<Step<Option<Text>>, Fault>
     ensures { result ≡ text s.now (bit k flags) at }
 {
@@ -37,6 +38,7 @@ fn most_of(later: bool, n: usize) -> usize
 
 impl TextList {
     // A list under bit k of the flags; `later` says whether a later list is flagged too.
+    #[inline(always)]
     pub fn read(s: &[u8], at: usize, flags: u8, k: u8, later: bool) -> Result<Step<TextList>, Fault>
         ensures { result ≡ list s.now (bit k flags) later at }
     {

@@ -11,7 +11,7 @@ pub returns-in-Some : goal.returns-in-Some
 unfolding by_type
 returns-in-Some c =
     let found = found_part _ 1 4 of_ipv4 c.args.payload.in_bounds (sym c.in-Some.is ∙ c.address.ensures ∙ ap (address_of 4) c.part.ensures) in
-    let all = accepted read _ _ (c.put_image.ensures.value, c.put_image.ensures.out_after) (of_type _ _ (omega arith) (omega arith) 0 c.in-0.is found) in record { value = all.0; image_after = all.1 }
+    let all = accepted read _ _ (c.put_fields.ensures.value, c.put_fields.ensures.out_after) (of_type _ _ (omega arith) (omega arith) 0 c.in-0.is found) in record { value = all.0; image_after = all.1 }
 
 pub returns-in-None : goal.returns-in-None
 unfolding by_type
@@ -23,7 +23,7 @@ pub returns-in-Some-address : goal.returns-in-Some-address
 unfolding by_type
 returns-in-Some-address c =
     let found = found_part _ 2 16 of_ipv6 c.args.payload.in_bounds (sym c.in-Some-address.is ∙ c.address-in-1.ensures ∙ ap (address_of 16) c.part-in-1.ensures) in
-    let all = accepted read _ _ (c.put_image-in-Some-address.ensures.value, c.put_image-in-Some-address.ensures.out_after) (of_type _ _ (omega arith) (omega arith) 1 c.in-1.is found) in record { value = all.0; image_after = all.1 }
+    let all = accepted read _ _ (c.put_fields-in-Some-address.ensures.value, c.put_fields-in-Some-address.ensures.out_after) (of_type _ _ (omega arith) (omega arith) 1 c.in-1.is found) in record { value = all.0; image_after = all.1 }
 
 pub returns-in-None-address : goal.returns-in-None-address
 unfolding by_type

@@ -1,7 +1,6 @@
--- `text_fields::fields::field_at` meets its contract: by what is left, then by the length, then by the text.
-use mathlib.Core.Path.{refl}
+-- `text_fields::fields::field_at` meets its contract: by what is left.
 use native.Mathlib.Omega.{arith}
-use Rattle.text_fields.proofs.Runs.{length_is, length_small, absent, past, garbled, whole_there}
+use Rattle.text_fields.proofs.Runs.{absent}
 use Rattle.text_fields.proofs.fields.field_at.Goals as goal
 
 pub returns-then-n-lt2 : goal.returns-then-n-lt2
@@ -9,23 +8,3 @@ returns-then-n-lt2 c = absent _ _ (omega arith)
 
 pub returns-then-n-at : goal.returns-then-n-at
 returns-then-n-at c = absent _ _ (omega arith)
-
-pub overflow_add-end : goal.overflow_add-end
-overflow_add-end c =
-    let a = c.args in
-    omega (arith, length_small a.s.now a.at refl c.number-len.ensures.upper_bound)
-
-pub returns-then-n-end : goal.returns-then-n-end
-returns-then-n-end c =
-    let a = c.args in
-    past _ _ (length_is a.s.now a.at refl c.number-len.ensures.value) (omega arith) c.if-n-end.true
-
-pub returns-then-good-len : goal.returns-then-good-len
-returns-then-good-len c =
-    let a = c.args in
-    garbled _ _ (length_is a.s.now a.at refl c.number-len.ensures.value) (omega arith) c.well_formed-good.ensures.value (omega arith) c.if-good-len.true c.bad_length-bad.ensures
-
-pub returns : goal.returns
-returns c =
-    let a = c.args in
-    whole_there _ _ (length_is a.s.now a.at refl c.number-len.ensures.value) (omega arith) c.well_formed-good.ensures.value (omega arith) c.if-good-len.false
