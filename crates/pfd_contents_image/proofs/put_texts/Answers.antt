@@ -8,7 +8,7 @@ use Rattle.octets.specs.Octets.{put}
 use Rattle.octets.proofs.Laws.{put_not}
 use Rattle.pfd_contents.specs.declared.PfdContents.{PfdContents}
 use Rattle.image.proofs.Laws.{last_part, then_part}
-use Rattle.pfd_contents_image.specs.PfdContentsImage.{flow_at, url_at, domain_at, custom_at, protocol_at, flows_at, size, text_image, texts_image}
+use Rattle.pfd_contents_image.specs.PfdContentsImage.{flow_at, url_at, domain_at, custom_at, protocol_at, flows_at, text_image, texts_image}
 use Rattle.pfd_contents_image.proofs.Laws.{length_text, length_texts}
 use Rattle.pfd_contents_image.proofs.put_texts.Goals as goal
 
