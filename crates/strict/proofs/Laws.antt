@@ -1,7 +1,7 @@
 -- A field is present, and a list has an entry, where the record says so.
 use Prim.Native.Nat.{ℕ, zero, suc}
 use mathlib.Core.Path.{◌≡◌, refl}
-use mathlib.Core.Bool.{Bool, true, false, not}
+use mathlib.Core.Bool.{not}
 use mathlib.Core.List.{List}
 use lib.Dec.{eqb, eqb-suc-zero}
 use Rattle.std.specs.Prelude.{Option, Some, None, is_some}

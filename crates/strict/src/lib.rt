@@ -7,7 +7,7 @@ ghost use Rattle.octets.specs.Octets.{bit};
 ghost use Rattle.pfd_contents.specs.PfdContents.{meaning};
 ghost use Rattle.strict.specs.Strict.{ue_ip_address, f_teid, f_seid, node_id, outer_header_creation, pfd_contents, complete};
 
-use answer::Answer;
+use answer::Read;
 use f_teid::Fteid;
 use fseid::Fseid;
 use node_id::NodeId;
@@ -15,11 +15,13 @@ use outer_header_creation::OuterHeaderCreation;
 use pfd_contents::PfdContents;
 use ue_ip_address::UeIpAddress;
 
-// No if the reader refused, else what the kind asks.
-fn accepted_and(answer: Answer, asked: bool) -> bool
-    ensures { result ≡ eqb (number_of answer) 0 && asked }
+// No if the reader refused, else what the kind asks of the record.
+fn verdict<T: Copy, A: FnOnce(T) -> bool>(read: Read<T>, asks: A) -> bool
+    requires { A.IsAlwaysCallable asks }
+    ensures { (asked : _) × A.post asks read.«record» asked × result ≡ eqb (number_of read.answer) 0 && asked }
 {
-    octets::both(answer.number() == 0, asked)
+    let asked = asks(read.record);
+    octets::both(read.answer.number() == 0, asked)
 }
 
 // Whether all was well before, and what bit k of the flags announces is there.
@@ -57,48 +59,42 @@ fn complete(record: PfdContents) -> bool
 pub fn ue_ip_address(payload: &[u8]) -> bool
     ensures { result ≡ ue_ip_address payload.now }
 {
-    let address_answer = UeIpAddress::unmarshal(payload).answer;
-    accepted_and(address_answer, true)
+    verdict(UeIpAddress::unmarshal(payload), |_| true)
 }
 
 pub fn f_teid(payload: &[u8]) -> bool
     ensures { result ≡ f_teid payload.now }
 {
-    let read = Fteid::unmarshal(payload);
-    let answer = read.answer;
-    let tunnel = read.record;
-    accepted_and(answer, octets::either(tunnel.v4, tunnel.v6))
+    verdict(
+        Fteid::unmarshal(payload),
+        |tunnel| octets::either(tunnel.v4, tunnel.v6),
+    )
 }
 
 pub fn fseid(payload: &[u8]) -> bool
     ensures { result ≡ f_seid payload.now }
 {
-    let read = Fseid::unmarshal(payload);
-    let answer = read.answer;
-    let session = read.record;
-    accepted_and(answer, octets::either(session.v4, session.v6))
+    verdict(
+        Fseid::unmarshal(payload),
+        |session| octets::either(session.v4, session.v6),
+    )
 }
 
 // The type is the low four bits of the first byte; the others are spare.
 pub fn node_id(payload: &[u8]) -> bool
     ensures { result ≡ node_id payload.now }
 {
-    let node_answer = NodeId::unmarshal_masked(payload, 0x0F).answer;
-    accepted_and(node_answer, true)
+    verdict(NodeId::unmarshal_masked(payload, 0x0F), |_| true)
 }
 
 pub fn outer_header_creation(payload: &[u8]) -> bool
     ensures { result ≡ outer_header_creation payload.now }
 {
-    let header_answer = OuterHeaderCreation::unmarshal(payload).answer;
-    accepted_and(header_answer, true)
+    verdict(OuterHeaderCreation::unmarshal(payload), |_| true)
 }
 
 pub fn pfd_contents(payload: &[u8]) -> bool
     ensures { result ≡ pfd_contents payload.now }
 {
-    let read = PfdContents::unmarshal(payload);
-    let answer = read.answer;
-    let record = read.record;
-    accepted_and(answer, complete(record))
+    verdict(PfdContents::unmarshal(payload), complete)
 }

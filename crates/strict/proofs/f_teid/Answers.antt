@@ -1,8 +1,14 @@
 -- `strict::f_teid` meets its contract: what was read is what the definition reads.
+use mathlib.Core.Path.{◌≡◌}
+use mathlib.Core.Bool.{◌||◌}
+use borrow.Author.Rules.{rules}
 use Rattle.f_teid.specs.Fteid.{meaning}
 use Rattle.strict.specs.Strict.{verdict}
 use Rattle.strict.proofs.f_teid.Goals as goal
 
 pub returns : goal.returns
 unfolding verdict meaning
-returns c = rw (c.accepted_and.ensures, c.either.ensures, c.unmarshal-read.ensures)
+returns c =
+    let v = c.verdict.ensures in
+    let r = c.unmarshal.result.«record» in
+    let asked : v.0 ≡ (r.v4 || r.v6) = search rules in rw (v.2, asked, c.unmarshal.ensures)

@@ -1,7 +1,12 @@
 -- `strict::outer_header_creation` meets its contract: what was read is what the definition reads.
+use mathlib.Core.Path.{◌≡◌}
+use mathlib.Core.Bool.{true}
+use borrow.Author.Rules.{rules}
 use Rattle.strict.specs.Strict.{verdict}
 use Rattle.strict.proofs.outer_header_creation.Goals as goal
 
 pub returns : goal.returns
 unfolding verdict
-returns c = rw (c.accepted_and.ensures, c.unmarshal-header_answer.ensures)
+returns c =
+    let v = c.verdict.ensures in
+    let asked : v.0 ≡ true = search rules in rw (v.2, asked, c.unmarshal.ensures)

@@ -5,4 +5,5 @@ use Rattle.strict.proofs.pfd_contents.Goals as goal
 pub returns : goal.returns
 unfolding verdict
 returns c =
-    rw (c.accepted_and.ensures, c.complete.ensures c.args.payload.now, c.unmarshal-read.ensures)
+    let v = c.verdict.ensures in
+    rw (v.2, v.1 c.args.payload.now, c.unmarshal.ensures)
