@@ -1,38 +1,110 @@
-// The calls of record lines, and the keys that each takes. A call's number is its place in the list of all.
+// The calls of record lines, and the keys that each takes.
 use crate::keys::{
-    BRIEF, CH4, CH6, CHDUAL, CID, CTAG, DB, DUAL, ENTRIES, FLAGS, LISTS, NAME, PL, PORT, ROOM,
-    SEID, SLICE, STAG, TEID, V4, V6,
+    AFD, AFD_ENTRY, BRIEF, CH4, CH6, CHDUAL, CID, CTAG, DB, DN, DNP, DUAL, FD, FLAGS, NAME, PL,
+    PORT, ROOM, SEID, SLICE, STAG, TEID, URL, V4, V6,
 };
 use crate::seen::Seen;
 
-// The number of a line's call.
-pub(crate) fn call_of(line: &[u8]) -> usize {
-    words::index(
-        b"U U.new U.choose F F.new F.new_with_choose F.ipv4 F.ipv6 F.dual_stack F.choose_ipv4 F.choose_ipv6 F.choose_dual_stack F.build S S.new N N.new_ipv4 N.new_ipv6 N.new_fqdn N.raw N.read O O.new O.gtpu_ipv4 O.gtpu_ipv6 O.udp_ipv4 O.flags.new O.flags.default O.flags.gtpu_ipv4 O.flags.gtpu_ipv6 O.flags.udp_ipv4 O.flags.udp_ipv6 P P.build P.raw P.raw_build P.read P.flow_description P.url P.domain_name P.flow_and_url P.domain_and_protocol",
-        words::head(line),
-    )
+// A call is the letter of its record, with the name of a constructor or a builder's `build` behind it where it has one.
+#[derive(Clone, Copy, PartialEq, Eq)]
+pub(crate) enum Call {
+    U,
+    UNew,
+    UChoose,
+    F,
+    FNew,
+    FNewWithChoose,
+    FIpv4,
+    FIpv6,
+    FDualStack,
+    FChooseIpv4,
+    FChooseIpv6,
+    FChooseDualStack,
+    FBuild,
+    S,
+    SNew,
+    N,
+    NNewIpv4,
+    NNewIpv6,
+    NNewFqdn,
+    NRaw,
+    NRead,
+    O,
+    ONew,
+    OGtpuIpv4,
+    OGtpuIpv6,
+    OUdpIpv4,
+    OFlagsNew,
+    OFlagsDefault,
+    OFlagsGtpuIpv4,
+    OFlagsGtpuIpv6,
+    OFlagsUdpIpv4,
+    OFlagsUdpIpv6,
+    P,
+    PBuild,
+    PRaw,
+    PRawBuild,
+    PRead,
+    PFlowDescription,
+    PUrl,
+    PDomainName,
+    PFlowAndUrl,
+    PDomainAndProtocol,
 }
 
-const N: usize = 15;
-
-pub(crate) const N_RAW: usize = 19;
-
-pub(crate) const N_READ: usize = 20;
-
-pub(crate) const P: usize = 32;
-
-pub(crate) const P_BUILD: usize = 33;
-
-pub(crate) const P_RAW: usize = 34;
-
-pub(crate) const P_RAW_BUILD: usize = 35;
-
-pub(crate) const P_READ: usize = 36;
+// The call that a line begins with.
+pub(crate) fn call_of(line: &[u8]) -> Option<Call> {
+    match words::head(line) {
+        b"U" => Some(Call::U),
+        b"U.new" => Some(Call::UNew),
+        b"U.choose" => Some(Call::UChoose),
+        b"F" => Some(Call::F),
+        b"F.new" => Some(Call::FNew),
+        b"F.new_with_choose" => Some(Call::FNewWithChoose),
+        b"F.ipv4" => Some(Call::FIpv4),
+        b"F.ipv6" => Some(Call::FIpv6),
+        b"F.dual_stack" => Some(Call::FDualStack),
+        b"F.choose_ipv4" => Some(Call::FChooseIpv4),
+        b"F.choose_ipv6" => Some(Call::FChooseIpv6),
+        b"F.choose_dual_stack" => Some(Call::FChooseDualStack),
+        b"F.build" => Some(Call::FBuild),
+        b"S" => Some(Call::S),
+        b"S.new" => Some(Call::SNew),
+        b"N" => Some(Call::N),
+        b"N.new_ipv4" => Some(Call::NNewIpv4),
+        b"N.new_ipv6" => Some(Call::NNewIpv6),
+        b"N.new_fqdn" => Some(Call::NNewFqdn),
+        b"N.raw" => Some(Call::NRaw),
+        b"N.read" => Some(Call::NRead),
+        b"O" => Some(Call::O),
+        b"O.new" => Some(Call::ONew),
+        b"O.gtpu_ipv4" => Some(Call::OGtpuIpv4),
+        b"O.gtpu_ipv6" => Some(Call::OGtpuIpv6),
+        b"O.udp_ipv4" => Some(Call::OUdpIpv4),
+        b"O.flags.new" => Some(Call::OFlagsNew),
+        b"O.flags.default" => Some(Call::OFlagsDefault),
+        b"O.flags.gtpu_ipv4" => Some(Call::OFlagsGtpuIpv4),
+        b"O.flags.gtpu_ipv6" => Some(Call::OFlagsGtpuIpv6),
+        b"O.flags.udp_ipv4" => Some(Call::OFlagsUdpIpv4),
+        b"O.flags.udp_ipv6" => Some(Call::OFlagsUdpIpv6),
+        b"P" => Some(Call::P),
+        b"P.build" => Some(Call::PBuild),
+        b"P.raw" => Some(Call::PRaw),
+        b"P.raw_build" => Some(Call::PRawBuild),
+        b"P.read" => Some(Call::PRead),
+        b"P.flow_description" => Some(Call::PFlowDescription),
+        b"P.url" => Some(Call::PUrl),
+        b"P.domain_name" => Some(Call::PDomainName),
+        b"P.flow_and_url" => Some(Call::PFlowAndUrl),
+        b"P.domain_and_protocol" => Some(Call::PDomainAndProtocol),
+        _ => None,
+    }
+}
 
 // Whether the texts of a call are given by their places in a slice.
-pub(crate) fn has_places(call: usize) -> bool {
+pub(crate) fn has_places(call: Call) -> bool {
     match call {
-        N_RAW | P_RAW | P_RAW_BUILD => true,
+        Call::NRaw | Call::PRaw | Call::PRawBuild => true,
         _ => false,
     }
 }
@@ -40,9 +112,9 @@ pub(crate) fn has_places(call: usize) -> bool {
 // Keys as bits: those of PFD Contents' texts, lists and entries; addresses, tags, and what goes with places.
 const TEXTS: u32 = 0b11111;
 
-const FIELD_LISTS: u32 = 0b111 << LISTS;
+const FIELD_LISTS: u32 = 0b111 << AFD;
 
-const CALLED: u32 = TEXTS | FIELD_LISTS | 0b111 << ENTRIES;
+const CALLED: u32 = TEXTS | FIELD_LISTS | 0b111 << AFD_ENTRY;
 
 const PLAIN: u32 = TEXTS | FIELD_LISTS | 1 << FLAGS;
 
@@ -70,62 +142,53 @@ const O_KEYS: u32 = 1 << FLAGS | 1 << TEID | BOTH | 1 << PORT | TAGS;
 #[derive(Clone, Copy)]
 struct Keys(u32, u32, u32, usize);
 
-fn keys_of(call: usize) -> Keys {
+fn keys_of(call: Call) -> Keys {
     match call {
-        // U U.new U.choose
-        0 => Keys(0, U_KEYS, 0, 0x7F),
-        1 => Keys(0, BOTH, 0, 0),
-        2 => Keys(0, CHOICES, 0, 0),
-        // F F.new F.new_with_choose
-        3 => Keys(0, F_KEYS, 0, 0x0F),
-        4 => Keys(0, F_KEYS, 0, 0x03),
-        5 => Keys(0, F_KEYS, 0, 0x0F),
-        // F.ipv4 F.ipv6 F.dual_stack
-        6 => Keys(1 << V4, 1 << TEID, 0, 0),
-        7 => Keys(1 << V6, 1 << TEID, 0, 0),
-        8 => Keys(BOTH, 1 << TEID, 0, 0),
-        // F.choose_ipv4 F.choose_ipv6 F.choose_dual_stack
-        9..=11 => Keys(0, 1 << TEID, 0, 0),
-        // F.build
-        12 => Keys(0, F_CALLS, F_CALLS, 0),
-        // S S.new
-        13 => Keys(0, 1 << FLAGS | S_KEYS, 0, 0x03),
-        14 => Keys(0, S_KEYS, 0, 0),
-        // N N.new_ipv4 N.new_ipv6 N.new_fqdn
-        15 => Keys(0, BOTH | 1 << NAME, 0, 0),
-        16 => Keys(1 << V4, 0, 0, 0),
-        17 => Keys(1 << V6, 0, 0, 0),
-        18 => Keys(1 << NAME, 0, 0, 0),
-        // N.raw N.read
-        19 => Keys(1 << NAME, LENT, 0, 0),
-        20 => Keys(0, READ, 0, 0),
-        // O O.new O.gtpu_ipv4 O.gtpu_ipv6 O.udp_ipv4
-        21 => Keys(0, O_KEYS, 0, 0xFF),
-        22 => Keys(1 << FLAGS, TAGS, 0, 0xFF),
-        23 => Keys(1 << TEID | 1 << V4, TAGS, 0, 0),
-        24 => Keys(1 << TEID | 1 << V6, TAGS, 0, 0),
-        25 => Keys(1 << V4 | 1 << PORT, TAGS, 0, 0),
-        // O.flags.new O.flags.default O.flags.gtpu_ipv4 O.flags.gtpu_ipv6 O.flags.udp_ipv4 O.flags.udp_ipv6
-        26..=31 => Keys(0, 0, 0, 0),
-        // P P.build P.raw P.raw_build P.read
-        32 => Keys(0, PLAIN, 0, 0xFF),
-        33 => Keys(0, CALLED, CALLED, 0),
-        34 => Keys(0, PLAIN | LENT, 0, 0xFF),
-        35 => Keys(0, CALLED | LENT, CALLED, 0),
-        36 => Keys(0, READ, 0, 0),
-        // P.flow_description P.url P.domain_name P.flow_and_url P.domain_and_protocol
-        37 => Keys(0b00001, 0, 0, 0),
-        38 => Keys(0b00010, 0, 0, 0),
-        39 => Keys(0b00100, 0, 0, 0),
-        40 => Keys(0b00011, 0, 0, 0),
-        41 => Keys(0b10100, 0, 0, 0),
-        // What is no call needs a key that no line has.
-        _ => Keys(1 << 31, 0, 0, 0),
+        Call::U => Keys(0, U_KEYS, 0, 0x7F),
+        Call::UNew => Keys(0, BOTH, 0, 0),
+        Call::UChoose => Keys(0, CHOICES, 0, 0),
+        Call::F => Keys(0, F_KEYS, 0, 0x0F),
+        Call::FNew => Keys(0, F_KEYS, 0, 0x03),
+        Call::FNewWithChoose => Keys(0, F_KEYS, 0, 0x0F),
+        Call::FIpv4 => Keys(1 << V4, 1 << TEID, 0, 0),
+        Call::FIpv6 => Keys(1 << V6, 1 << TEID, 0, 0),
+        Call::FDualStack => Keys(BOTH, 1 << TEID, 0, 0),
+        Call::FChooseIpv4 | Call::FChooseIpv6 | Call::FChooseDualStack => Keys(0, 1 << TEID, 0, 0),
+        Call::FBuild => Keys(0, F_CALLS, F_CALLS, 0),
+        Call::S => Keys(0, 1 << FLAGS | S_KEYS, 0, 0x03),
+        Call::SNew => Keys(0, S_KEYS, 0, 0),
+        Call::N => Keys(0, BOTH | 1 << NAME, 0, 0),
+        Call::NNewIpv4 => Keys(1 << V4, 0, 0, 0),
+        Call::NNewIpv6 => Keys(1 << V6, 0, 0, 0),
+        Call::NNewFqdn => Keys(1 << NAME, 0, 0, 0),
+        Call::NRaw => Keys(1 << NAME, LENT, 0, 0),
+        Call::NRead => Keys(0, READ, 0, 0),
+        Call::O => Keys(0, O_KEYS, 0, 0xFF),
+        Call::ONew => Keys(1 << FLAGS, TAGS, 0, 0xFF),
+        Call::OGtpuIpv4 => Keys(1 << TEID | 1 << V4, TAGS, 0, 0),
+        Call::OGtpuIpv6 => Keys(1 << TEID | 1 << V6, TAGS, 0, 0),
+        Call::OUdpIpv4 => Keys(1 << V4 | 1 << PORT, TAGS, 0, 0),
+        Call::OFlagsNew
+        | Call::OFlagsDefault
+        | Call::OFlagsGtpuIpv4
+        | Call::OFlagsGtpuIpv6
+        | Call::OFlagsUdpIpv4
+        | Call::OFlagsUdpIpv6 => Keys(0, 0, 0, 0),
+        Call::P => Keys(0, PLAIN, 0, 0xFF),
+        Call::PBuild => Keys(0, CALLED, CALLED, 0),
+        Call::PRaw => Keys(0, PLAIN | LENT, 0, 0xFF),
+        Call::PRawBuild => Keys(0, CALLED | LENT, CALLED, 0),
+        Call::PRead => Keys(0, READ, 0, 0),
+        Call::PFlowDescription => Keys(1 << FD, 0, 0, 0),
+        Call::PUrl => Keys(1 << URL, 0, 0, 0),
+        Call::PDomainName => Keys(1 << DN, 0, 0, 0),
+        Call::PFlowAndUrl => Keys(1 << FD | 1 << URL, 0, 0, 0),
+        Call::PDomainAndProtocol => Keys(1 << DN | 1 << DNP, 0, 0, 0),
     }
 }
 
 // Whether a call takes what a line has, and its flags.
-pub(crate) fn is_taken(call: usize, seen: Seen, flags: usize) -> bool {
+pub(crate) fn is_taken(call: Call, seen: Seen, flags: usize) -> bool {
     let row = keys_of(call);
     let taken = row.0 | row.1;
     if seen.keys & row.0 != row.0 {
@@ -141,7 +204,7 @@ pub(crate) fn is_taken(call: usize, seen: Seen, flags: usize) -> bool {
         return false;
     }
     // A plain Node ID has just one key.
-    if octets::both(call == N, u32::count_ones(seen.keys) != 1) {
+    if octets::both(call == Call::N, u32::count_ones(seen.keys) != 1) {
         return false;
     }
     true

@@ -67,6 +67,7 @@ pub(crate) fn put_payload<
 }
 
 // Puts what was used and is written, up to the bar before the fields.
+// `probe` has these two lines too: a public function for both, with its contract, would be no plainer.
 fn put_written(out: &mut [u8], at: usize, used: usize, wire: &[u8]) -> usize {
     let values = [rows::count(used), rows::front(Some(wire.len()))];
     rows::put(out, at, b"0 # # | ", &values, wire)

@@ -1,4 +1,5 @@
 // The records of fixed fields, as a line gives them or as its call makes them.
+use crate::calls::Call;
 use crate::keys;
 use crate::seen::{Seen, V6_LOW, Values};
 use f_teid::Fteid;
@@ -54,12 +55,12 @@ fn number_of(seen: Seen, values: &Values, key: usize) -> Option<usize> {
     values.get(key).copied()
 }
 
-pub(crate) fn ue_ip_address(call: usize, seen: Seen, values: &Values) -> UeIpAddress {
+pub(crate) fn ue_ip_address(call: Call, seen: Seen, values: &Values) -> UeIpAddress {
     let ipv4_address = ipv4_of(seen, values);
     let ipv6_address = ipv6_of(seen, values);
     match call {
-        1 => UeIpAddress::new(ipv4_address, ipv6_address),
-        2 => UeIpAddress::choose(seen.has(keys::CH4), seen.has(keys::CH6)),
+        Call::UNew => UeIpAddress::new(ipv4_address, ipv6_address),
+        Call::UChoose => UeIpAddress::choose(seen.has(keys::CH4), seen.has(keys::CH6)),
         _ => {
             let flags = to_u8(values[keys::FLAGS]);
             UeIpAddress {
@@ -79,13 +80,13 @@ pub(crate) fn ue_ip_address(call: usize, seen: Seen, values: &Values) -> UeIpAdd
     }
 }
 
-pub(crate) fn fseid(call: usize, seen: Seen, values: &Values) -> Fseid {
+pub(crate) fn fseid(call: Call, seen: Seen, values: &Values) -> Fseid {
     let seid = Seid(values[keys::SEID] as u64);
     let ipv4_address = ipv4_of(seen, values);
     let ipv6_address = ipv6_of(seen, values);
     let flags = to_u8(values[keys::FLAGS]);
     match call {
-        14 => Fseid::new(seid, ipv4_address, ipv6_address),
+        Call::SNew => Fseid::new(seid, ipv4_address, ipv6_address),
         _ => Fseid {
             v6: octets::bit(flags, 0),
             v4: octets::bit(flags, 1),
@@ -96,11 +97,8 @@ pub(crate) fn fseid(call: usize, seen: Seen, values: &Values) -> Fseid {
     }
 }
 
-pub(crate) fn f_teid(call: usize, seen: Seen, values: &Values) -> Fteid {
+pub(crate) fn f_teid(call: Call, seen: Seen, values: &Values) -> Fteid {
     let teid = to_teid(values[keys::TEID]);
-    if 5 < call {
-        return short_f_teid(call, teid, values);
-    }
     let ipv4_address = ipv4_of(seen, values);
     let ipv6_address = ipv6_of(seen, values);
     let flags = to_u8(values[keys::FLAGS]);
@@ -110,8 +108,8 @@ pub(crate) fn f_teid(call: usize, seen: Seen, values: &Values) -> Fteid {
     let ch = octets::bit(flags, 2);
     let chid = octets::bit(flags, 3);
     match call {
-        4 => Fteid::new(v4, v6, teid, ipv4_address, ipv6_address, choose_id),
-        5 => Fteid::new_with_choose(
+        Call::FNew => Fteid::new(v4, v6, teid, ipv4_address, ipv6_address, choose_id),
+        Call::FNewWithChoose => Fteid::new_with_choose(
             v4,
             v6,
             ch,
@@ -121,7 +119,7 @@ pub(crate) fn f_teid(call: usize, seen: Seen, values: &Values) -> Fteid {
             ipv6_address,
             choose_id,
         ),
-        _ => Fteid {
+        Call::F => Fteid {
             v4,
             v6,
             ch,
@@ -131,29 +129,30 @@ pub(crate) fn f_teid(call: usize, seen: Seen, values: &Values) -> Fteid {
             ipv6_address,
             choose_id,
         },
+        _ => short_f_teid(call, teid, values),
     }
 }
 
-fn short_f_teid(call: usize, teid: Teid, values: &Values) -> Fteid {
+fn short_f_teid(call: Call, teid: Teid, values: &Values) -> Fteid {
     let ipv4 = to_ipv4(values[keys::V4]);
     let ipv6 = to_ipv6(values[keys::V6], values[V6_LOW]);
     match call {
-        6 => Fteid::ipv4(teid, ipv4),
-        7 => Fteid::ipv6(teid, ipv6),
-        8 => Fteid::dual_stack(teid, ipv4, ipv6),
-        9 => Fteid::choose_ipv4(teid),
-        10 => Fteid::choose_ipv6(teid),
+        Call::FIpv4 => Fteid::ipv4(teid, ipv4),
+        Call::FIpv6 => Fteid::ipv6(teid, ipv6),
+        Call::FDualStack => Fteid::dual_stack(teid, ipv4, ipv6),
+        Call::FChooseIpv4 => Fteid::choose_ipv4(teid),
+        Call::FChooseIpv6 => Fteid::choose_ipv6(teid),
         _ => Fteid::choose_dual_stack(teid),
     }
 }
 
-fn flag_set(call: usize) -> OuterHeaderCreationFlags {
+fn flag_set(call: Call) -> OuterHeaderCreationFlags {
     match call {
-        26 => OuterHeaderCreationFlags::new(),
-        28 => OuterHeaderCreationFlags::gtpu_ipv4(),
-        29 => OuterHeaderCreationFlags::gtpu_ipv6(),
-        30 => OuterHeaderCreationFlags::udp_ipv4(),
-        31 => OuterHeaderCreationFlags::udp_ipv6(),
+        Call::OFlagsNew => OuterHeaderCreationFlags::new(),
+        Call::OFlagsGtpuIpv4 => OuterHeaderCreationFlags::gtpu_ipv4(),
+        Call::OFlagsGtpuIpv6 => OuterHeaderCreationFlags::gtpu_ipv6(),
+        Call::OFlagsUdpIpv4 => OuterHeaderCreationFlags::udp_ipv4(),
+        Call::OFlagsUdpIpv6 => OuterHeaderCreationFlags::udp_ipv6(),
         _ => OuterHeaderCreationFlags::EMPTY,
     }
 }
@@ -174,27 +173,29 @@ fn with_tags(
 }
 
 // The record of a constructor, before its tags.
-fn constructed(call: usize, values: &Values) -> OuterHeaderCreation {
+fn constructed(call: Call, values: &Values) -> OuterHeaderCreation {
     let teid = to_teid(values[keys::TEID]);
     let ipv4 = to_ipv4(values[keys::V4]);
     let ipv6 = to_ipv6(values[keys::V6], values[V6_LOW]);
     match call {
-        22 => OuterHeaderCreation::new(OuterHeaderCreationFlags::of(to_u8(values[keys::FLAGS]))),
-        23 => OuterHeaderCreation::gtpu_ipv4(teid, ipv4),
-        24 => OuterHeaderCreation::gtpu_ipv6(teid, ipv6),
-        25 => OuterHeaderCreation::udp_ipv4(ipv4, to_u16(values[keys::PORT])),
+        Call::ONew => OuterHeaderCreation::new(OuterHeaderCreationFlags::of(to_u8(
+            values[keys::FLAGS],
+        ))),
+        Call::OGtpuIpv4 => OuterHeaderCreation::gtpu_ipv4(teid, ipv4),
+        Call::OGtpuIpv6 => OuterHeaderCreation::gtpu_ipv6(teid, ipv6),
+        Call::OUdpIpv4 => OuterHeaderCreation::udp_ipv4(ipv4, to_u16(values[keys::PORT])),
         _ => OuterHeaderCreation::new(flag_set(call)),
     }
 }
 
 pub(crate) fn outer_header_creation(
-    call: usize,
+    call: Call,
     seen: Seen,
     values: &Values,
 ) -> OuterHeaderCreation {
     let ctag = number_of(seen, values, keys::CTAG).map(to_u32);
     let stag = number_of(seen, values, keys::STAG).map(to_u32);
-    if call != 21 {
+    if call != Call::O {
         return with_tags(constructed(call, values), ctag, stag, seen.stag_first);
     }
     let ipv4_address = ipv4_of(seen, values);

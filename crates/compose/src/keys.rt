@@ -1,11 +1,34 @@
-// The keys of record lines. A key's number is its place in the list of all.
+// The keys of record lines. A key stays a number, which is no less plain than an enum here: it is the key's place in the list of all,
+// its bit in the set of a line, and, compared with LISTS, ENTRIES and FIELDS, its kind.
 
 // Texts come first, then lists, then entries that are added to a list; FIELDS keys are of these.
+pub(crate) const FD: usize = 0;
+
+pub(crate) const URL: usize = 1;
+
+pub(crate) const DN: usize = 2;
+
+pub(crate) const CP: usize = 3;
+
+pub(crate) const DNP: usize = 4;
+
 pub(crate) const NAME: usize = 5;
 
-pub(crate) const LISTS: usize = 6;
+pub(crate) const LISTS: usize = AFD;
 
-pub(crate) const ENTRIES: usize = 9;
+pub(crate) const AFD: usize = 6;
+
+pub(crate) const AURL: usize = 7;
+
+pub(crate) const ADNP: usize = 8;
+
+pub(crate) const ENTRIES: usize = AFD_ENTRY;
+
+pub(crate) const AFD_ENTRY: usize = 9;
+
+pub(crate) const AURL_ENTRY: usize = 10;
+
+pub(crate) const ADNP_ENTRY: usize = 11;
 
 pub(crate) const FIELDS: usize = 12;
 

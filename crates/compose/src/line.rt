@@ -1,4 +1,5 @@
 // The row of a record line: a call, and words behind it.
+use crate::calls::Call;
 use crate::seen::{Seen, Values};
 use crate::{calls, f_teid_line, fixed, fixed_rows, keys, node_id_line, pfd_line, seen};
 use f_teid::Fteid;
@@ -17,7 +18,9 @@ pub(crate) fn put(out: &mut [u8], at: usize, line: &[u8], texts: &mut [u8]) -> u
     if LONGEST < line.len() {
         return rows::put_other(out, at);
     }
-    let call = calls::call_of(line);
+    let Some(call) = calls::call_of(line) else {
+        return rows::put_other(out, at);
+    };
     let mut values = [0usize; 32];
     values[keys::ROOM] = 65535;
     let Some(seen) = seen::look(line, calls::has_places(call), texts, &mut values) else {
@@ -34,23 +37,33 @@ fn put_row(
     out: &mut [u8],
     at: usize,
     line: &[u8],
-    call: usize,
+    call: Call,
     seen: Seen,
     values: &Values,
     texts: &mut [u8],
 ) -> usize {
     match call {
-        12 => f_teid_line::put(out, at, line),
-        15..=20 => node_id_line::put(out, at, call, seen, values, texts),
-        0..=31 => put_fixed(out, at, call, seen, values),
-        _ => pfd_line::put(out, at, line, call, seen, values, texts),
+        Call::FBuild => f_teid_line::put(out, at, line),
+        Call::N | Call::NNewIpv4 | Call::NNewIpv6 | Call::NNewFqdn | Call::NRaw | Call::NRead =>
+            node_id_line::put(out, at, call, seen, values, texts),
+        Call::P
+        | Call::PBuild
+        | Call::PRaw
+        | Call::PRawBuild
+        | Call::PRead
+        | Call::PFlowDescription
+        | Call::PUrl
+        | Call::PDomainName
+        | Call::PFlowAndUrl
+        | Call::PDomainAndProtocol => pfd_line::put(out, at, line, call, seen, values, texts),
+        _ => put_fixed(out, at, call, seen, values),
     }
 }
 
 // The row of a record of fixed fields.
-fn put_fixed(out: &mut [u8], at: usize, call: usize, seen: Seen, values: &Values) -> usize {
+fn put_fixed(out: &mut [u8], at: usize, call: Call, seen: Seen, values: &Values) -> usize {
     match call {
-        0..=2 => {
+        Call::U | Call::UNew | Call::UChoose => {
             let record = fixed::ue_ip_address(call, seen, values);
             fixed_rows::put(
                 out,
@@ -61,7 +74,15 @@ fn put_fixed(out: &mut [u8], at: usize, call: usize, seen: Seen, values: &Values
                 details::fixed::ue_ip_address,
             )
         }
-        3..=11 => {
+        Call::F
+        | Call::FNew
+        | Call::FNewWithChoose
+        | Call::FIpv4
+        | Call::FIpv6
+        | Call::FDualStack
+        | Call::FChooseIpv4
+        | Call::FChooseIpv6
+        | Call::FChooseDualStack => {
             let record = fixed::f_teid(call, seen, values);
             fixed_rows::put(
                 out,
@@ -72,7 +93,7 @@ fn put_fixed(out: &mut [u8], at: usize, call: usize, seen: Seen, values: &Values
                 details::fixed::f_teid,
             )
         }
-        13 | 14 => {
+        Call::S | Call::SNew => {
             let record = fixed::fseid(call, seen, values);
             fixed_rows::put(
                 out,

@@ -1,4 +1,5 @@
 // Node ID: the rows of its record lines.
+use crate::calls::Call;
 use crate::seen::{NAME_PLACE, Seen, V6_LOW, Values};
 use crate::{calls, fields, fixed, keys, written};
 use answer::Answer;
@@ -16,18 +17,18 @@ fn record_of(seen: Seen, values: &Values) -> NodeId {
 }
 
 // The slice is that of a line with places, or the name itself.
-fn slice_len(call: usize, values: &Values) -> usize {
-    if call < calls::N_RAW {
-        return values[keys::NAME];
+fn slice_len(call: Call, values: &Values) -> usize {
+    match call {
+        Call::NRaw | Call::NRead => values[keys::SLICE],
+        _ => values[keys::NAME],
     }
-    values[keys::SLICE]
 }
 
 // A name that is longer than the buffer is refused here, as it would be there.
 pub(crate) fn put(
     out: &mut [u8],
     at: usize,
-    call: usize,
+    call: Call,
     seen: Seen,
     values: &Values,
     texts: &[u8],
@@ -37,7 +38,7 @@ pub(crate) fn put(
         return refusals::put_unmade(out, at, Answer::InputTooLong { length: len });
     }
     let is_brief = seen.has(keys::BRIEF);
-    if call == calls::N_READ {
+    if call == Call::NRead {
         let payload = texts::part(texts, 0, len);
         return fields::put_payload(
             out,

@@ -1,5 +1,6 @@
 // PFD Contents: what the calls of a line give. Once the words were seen, they are walked again, to store texts so that the entries of
 // a list stand one behind the other, and to make the builder's calls in the order of the line.
+use crate::calls::Call;
 use crate::numbers::Given;
 use crate::seen::Values;
 use crate::{calls, fixed, keys, seen};
@@ -18,10 +19,10 @@ struct Calls {
 
 fn with_text(mut record: PfdContents, key: usize, text: Text) -> PfdContents {
     match key {
-        0 => record.flow_description = Some(text),
-        1 => record.url = Some(text),
-        2 => record.domain_name = Some(text),
-        3 => record.custom_pfd_content = Some(text),
+        keys::FD => record.flow_description = Some(text),
+        keys::URL => record.url = Some(text),
+        keys::DN => record.domain_name = Some(text),
+        keys::CP => record.custom_pfd_content = Some(text),
         _ => record.domain_name_protocol = Some(text),
     }
     record
@@ -29,8 +30,8 @@ fn with_text(mut record: PfdContents, key: usize, text: Text) -> PfdContents {
 
 fn with_list(mut record: PfdContents, key: usize, list: TextList) -> PfdContents {
     match key {
-        6 => record.additional_flow_description = list,
-        7 => record.additional_url = list,
+        keys::AFD => record.additional_flow_description = list,
+        keys::AURL => record.additional_url = list,
         _ => record.additional_domain_name_and_protocol = list,
     }
     record
@@ -38,26 +39,26 @@ fn with_list(mut record: PfdContents, key: usize, list: TextList) -> PfdContents
 
 fn set_text(b: PfdContentsBuilder, key: usize, place: usize, len: usize) -> PfdContentsBuilder {
     match key {
-        0 => b.flow_description(place, len),
-        1 => b.url(place, len),
-        2 => b.domain_name(place, len),
-        3 => b.custom_pfd_content(place, len),
+        keys::FD => b.flow_description(place, len),
+        keys::URL => b.url(place, len),
+        keys::DN => b.domain_name(place, len),
+        keys::CP => b.custom_pfd_content(place, len),
         _ => b.domain_name_protocol(place, len),
     }
 }
 
 fn set_list(b: PfdContentsBuilder, key: usize, list: TextList) -> PfdContentsBuilder {
     match key {
-        6 => b.additional_flow_descriptions(list),
-        7 => b.additional_urls(list),
+        keys::AFD => b.additional_flow_descriptions(list),
+        keys::AURL => b.additional_urls(list),
         _ => b.additional_domain_names_and_protocols(list),
     }
 }
 
 fn add(b: PfdContentsBuilder, key: usize, texts: &[u8], place: usize) -> PfdContentsAdded {
     match key {
-        9 => b.add_additional_flow_description(texts, place),
-        10 => b.add_additional_url(texts, place),
+        keys::AFD_ENTRY => b.add_additional_flow_description(texts, place),
+        keys::AURL_ENTRY => b.add_additional_url(texts, place),
         _ => b.add_additional_domain_name_and_protocol(texts, place),
     }
 }
@@ -159,16 +160,18 @@ fn or_empty(text: Option<Text>) -> Text {
 }
 
 // The record of a constructor.
-fn constructed(record: PfdContents, call: usize, texts: &[u8]) -> Built<PfdContents> {
+fn constructed(record: PfdContents, call: Call, texts: &[u8]) -> Built<PfdContents> {
     let flow = or_empty(record.flow_description);
     let url = or_empty(record.url);
     let domain = or_empty(record.domain_name);
     let protocol = or_empty(record.domain_name_protocol);
     match call {
-        37 => PfdContents::flow_description(texts, flow.place, flow.len),
-        38 => PfdContents::url(texts, url.place, url.len),
-        39 => PfdContents::domain_name(texts, domain.place, domain.len),
-        40 => PfdContents::flow_and_url(texts, flow.place, flow.len, url.place, url.len),
+        Call::PFlowDescription => PfdContents::flow_description(texts, flow.place, flow.len),
+        Call::PUrl => PfdContents::url(texts, url.place, url.len),
+        Call::PDomainName => PfdContents::domain_name(texts, domain.place, domain.len),
+        Call::PFlowAndUrl => PfdContents::flow_and_url(
+            texts, flow.place, flow.len, url.place, url.len,
+        ),
         _ => PfdContents::domain_and_protocol(
             texts,
             domain.place,
@@ -179,7 +182,7 @@ fn constructed(record: PfdContents, call: usize, texts: &[u8]) -> Built<PfdConte
     }
 }
 
-fn made(calls: Calls, call: usize, flags: usize, texts: &[u8]) -> Built<PfdContents> {
+fn made(calls: Calls, call: Call, flags: usize, texts: &[u8]) -> Built<PfdContents> {
     let answer = calls.answer;
     let builder = calls.builder;
     let mut record = calls.record;
@@ -188,8 +191,8 @@ fn made(calls: Calls, call: usize, flags: usize, texts: &[u8]) -> Built<PfdConte
     }
     record.flags = fixed::to_u8(flags);
     match call {
-        calls::P | calls::P_RAW => Built { answer, record },
-        calls::P_BUILD | calls::P_RAW_BUILD => builder.build(texts),
+        Call::P | Call::PRaw => Built { answer, record },
+        Call::PBuild | Call::PRawBuild => builder.build(texts),
         _ => constructed(record, call, texts),
     }
 }
@@ -197,7 +200,7 @@ fn made(calls: Calls, call: usize, flags: usize, texts: &[u8]) -> Built<PfdConte
 // What the calls of a line give, whose texts are stored in so many bytes.
 pub(crate) fn built(
     line: &[u8],
-    call: usize,
+    call: Call,
     flags: usize,
     texts: &mut [u8],
     len: usize,
@@ -208,9 +211,9 @@ pub(crate) fn built(
 }
 
 // The slice is that of a line with places, or what the texts of all fields make.
-pub(crate) fn slice_len(call: usize, texts: usize, slice: usize) -> usize {
+pub(crate) fn slice_len(call: Call, texts: usize, slice: usize) -> usize {
     match call {
-        calls::P_RAW | calls::P_RAW_BUILD | calls::P_READ => slice,
+        Call::PRaw | Call::PRawBuild | Call::PRead => slice,
         _ => texts,
     }
 }

@@ -1,4 +1,5 @@
 // PFD Contents: the rows of its record lines.
+use crate::calls::Call;
 use crate::seen::{Seen, Values};
 use crate::{calls, fields, keys, pfd_calls, written};
 use answer::{Answer, Built};
@@ -36,7 +37,7 @@ pub(crate) fn put(
     out: &mut [u8],
     at: usize,
     line: &[u8],
-    call: usize,
+    call: Call,
     seen: Seen,
     values: &Values,
     texts: &mut [u8],
@@ -48,7 +49,7 @@ pub(crate) fn put(
         return refusals::put_unmade(out, at, Answer::InputTooLong { length: len });
     }
     let is_brief = seen.has(keys::BRIEF);
-    if call == calls::P_READ {
+    if call == Call::PRead {
         let payload = texts::part(texts, 0, len);
         return fields::put_payload(
             out,
