@@ -57,7 +57,8 @@ pub enum Answer {
 #[derive(Clone, Copy)]
 pub struct Values(pub usize, pub usize, pub usize);
 
-// What reading a payload answers; document 01 gives a refused read the empty record and used 0, so it is no `Result`.
+// What reading a payload answers; by the definition `refused` of each kind a refused read has the empty record and
+// used 0, so it is no `Result`.
 #[derive(Clone, Copy)]
 pub struct Read<T> {
     pub answer: Answer,
@@ -65,7 +66,7 @@ pub struct Read<T> {
     pub record: T,
 }
 
-// What a build answers; for the same reason a refused one has the empty record.
+// What a build answers; by `built` a refused one has the empty record, so it is no `Result`.
 #[derive(Clone, Copy)]
 pub struct Built<T> {
     pub answer: Answer,
@@ -73,6 +74,7 @@ pub struct Built<T> {
 }
 
 // What a write answers, with the written length.
+// By `answered` a refused write has the length 0 beside its answer, so it is no `Result`.
 #[derive(Clone, Copy)]
 pub struct Written {
     pub answer: Answer,
@@ -94,6 +96,7 @@ impl<T> Read<T> {
 
 impl Answer {
     // The answer's number on paper.
+    // No `From`: the number and the values are named by what they are, `number_of` and `values_of`.
     pub fn number(self) -> u8
         ensures { result ≡ number_of self }
     {

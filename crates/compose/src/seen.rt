@@ -5,6 +5,7 @@ use octets::{both, either};
 
 // A number for each key: how many bytes the texts of a field take, or what the key gives. Behind these stand the last eight bytes
 // of an IPv6 address, and the place of a name.
+// An array by key and no map: a map needs the heap.
 pub(crate) type Values = [usize; 32];
 
 pub(crate) const V6_LOW: usize = 30;

@@ -7,7 +7,7 @@ ghost use Rattle.distance.specs.Distance.{distance};
 use answer::Answer;
 use types::SequenceNumber;
 
-// What a distance answers. The definition has the value 0 beside a refusal, so it is no `Result`.
+// What a distance answers. The definition `distance` has the value 0 beside a refusal, so it is no `Result`.
 #[derive(Clone, Copy)]
 pub struct Distance {
     pub answer: Answer,

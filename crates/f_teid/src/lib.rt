@@ -302,6 +302,7 @@ impl Fteid {
     }
 
     // The ready-made records: what the builder makes of the same settings.
+    // One function a record, as rs-pfcp names them; the setters of the builder likewise.
     pub fn ipv4(teid: Teid, addr: [u8; 4]) -> Fteid
         ensures { result ≡ made true false teid (Some addr) None }
     {

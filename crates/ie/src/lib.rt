@@ -155,6 +155,7 @@ fn fill(body: &[u8], rows: &mut [Row])
 
 impl Ie {
     // In a row, in place of an enterprise number where there is none.
+    // K3 has that number in a row (`shown`); an IE has an `Option`.
     pub const NO_ENTERPRISE: u32 = 65536;
 
     // The types that may have length zero in the published Rust.

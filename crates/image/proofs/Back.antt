@@ -18,7 +18,7 @@ use Rattle.kind.specs.Kind.{Kind, Reads}
 use Rattle.kind.proofs.Demand3.{demand3}
 use Rattle.octets.specs.Octets.{pick, bit, if_set, flag_byte, Bytes, field, big_endian, is_number, address_of, number_of, over, put}
 use Rattle.octets.proofs.Laws.{bytes_take, bytes_drop, big_endian_less_law, number_below, number_fits, put_fits}
-use Rattle.std.specs.Prelude.{Option, Some, None, is_some, unwrap_or}
+use Rattle.std.specs.Prelude.{Some, None, is_some, unwrap_or}
 use Rattle.image.specs.Image.{address_bytes, little_endian_bytes, little_endian, number_at, head, read_image}
 use Rattle.image.proofs.Laws.{length_little_endian_bytes_law, length_head}
 

@@ -2,7 +2,7 @@
 // least significant first, which the compiler joins into one store.
 #![tactic(auto)]
 
-ghost use Rattle.std.specs.Prelude.{◌≡◌, ◌∷◌, [], ◌&&◌, ◌+◌, ◌*◌, get_or, leb, unwrap_or, None};
+ghost use Rattle.std.specs.Prelude.{◌≡◌, ◌<◌, ◌^◌, ◌∷◌, [], ◌&&◌, ◌+◌, ◌*◌, get_or, leb, unwrap_or, None};
 ghost use Rattle.answer.specs.declared.Answer.TheVariants.{Short, Flags};
 ghost use Rattle.answer.specs.Paper.{number_of};
 ghost use Rattle.octets.specs.Octets.{pick, if_set, field, put, address_of, number_of as number_in};
@@ -70,6 +70,7 @@ pub fn u64_at(image: &[u8], at: usize) -> u64
 }
 
 // The byte at a place, 0 where there is none.
+// Images are read whole, so that none is missing; `get_or` has 0 for one.
 pub fn byte_at(image: &[u8], at: usize) -> u8
     ensures { result ≡ get_or image.now at 0 }
 {
@@ -94,8 +95,10 @@ pub fn put_address<const N: usize>(out: &mut [u8], at: usize, address: Option<[u
 }
 
 // The number at a place of a payload, as wide as is said and W bytes at most, 0 where it isn't given.
+// `octets::number_of` is the one with an `Option`; images have 0 in an absent field.
 pub fn number_or_zero<const W: usize>(bytes: &[u8], at: usize, width: usize, given: bool) -> u64
-    ensures { result ≡ unwrap_or (pick (leb W 8) (number_in W (field bytes.now at (if_set given width))) None) 0 }
+    ensures value { result ≡ unwrap_or (pick (leb W 8) (number_in W (field bytes.now at (if_set given width))) None) 0 }
+    ensures upper_bound { result < 256 ^ W }
 {
     octets::number_of::<W>(texts::part(bytes, at, octets::if_set(given, width))).unwrap_or(0)
 }
@@ -117,6 +120,7 @@ pub fn put_head(out: &mut [u8], answer: Answer, count: usize)
 }
 
 // Puts what a write answered, and returns the answer's number.
+// What C calls answers by the paper's number, 0 where all is done and 8 where a lent slice is too short: C has no `Result`.
 pub fn put_report(out: &mut [u8], written: Written) -> u64
     ensures value { result ≡ number_of written.answer }
     ensures out_after { out.new ≡ put out.old 0 (report written) }
@@ -140,6 +144,7 @@ pub fn put_refused(out: &mut [u8], size: usize, answer: Answer) -> u64
 }
 
 // Puts the refusal of a payload that ends before a needed field.
+// Public, with a promise of its own: it spares its callers an answer of three fields.
 pub fn put_short(out: &mut [u8], size: usize, field: u8, expected: usize, actual: usize) -> u64
     ensures value { result ≡ number_of (Short field expected actual) }
     ensures out_after { out.new ≡ put out.old 0 (refusal_image size (Short field expected actual)) }

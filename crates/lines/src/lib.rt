@@ -22,6 +22,7 @@ pub fn to_front(buffer: &mut [u8], from: usize, n: usize) -> usize
 // Answers the lines of the standard input on the standard output, in constant memory: `answer` puts what answers a line at the front
 // of a room, `row` bytes long at least, and returns how many bytes that takes. A line's end isn't part of it, and the end of the input
 // ends a last line. Of a line that no read ends, no more than `longest` bytes count. What can't be read or written is the end.
+// Input and output are lent memory with what stands in it beside them: constant memory allows no `Vec`.
 pub fn answer_all<R: Input + Print, F: FnMut(&[u8], &mut [u8]) -> usize>(
     rt: &R,
     input: &mut [u8],

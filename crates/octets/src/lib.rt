@@ -77,6 +77,7 @@ fn fold_big_endian(bs: &[u8]) -> u64
 }
 
 // The number whose bytes these are, 0 where they are more than eight.
+// It could never fail, and its clause `value` has 0 there; `number_of` is the one with an `Option`.
 pub fn number(bs: &[u8]) -> u64
     ensures value { result ≡ pick (leb (length bs.now) 8) (big_endian bs.now) 0 }
     ensures upper_bound { result < 256 ^ length bs.now }

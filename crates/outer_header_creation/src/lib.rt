@@ -176,6 +176,7 @@ impl OuterHeaderCreationFlags {
         OuterHeaderCreationFlags::EMPTY
     }
 
+    // One constructor a flag, as rs-pfcp names them; those of records and the two tags below likewise.
     pub fn gtpu_ipv4() -> OuterHeaderCreationFlags
         ensures { result ≡ flags_of 0x01 }
     {
@@ -213,6 +214,7 @@ impl OuterHeaderCreationFlags {
     }
 
     // The flags of byte 0.
+    // Public under this name and under `byte`, with promises of their own; `From` below calls both.
     pub fn of(b: u8) -> OuterHeaderCreationFlags
         ensures { result ≡ flags_of b }
     {

@@ -22,6 +22,7 @@ pub struct PfdContentsBuilder {
 }
 
 // What adding an entry answers; the builder is as before where it is refused.
+// By `added_to` a refused one hands the builder back as it was, so it is no `Result`.
 #[derive(Clone, Copy)]
 pub struct PfdContentsAdded {
     pub answer: Answer,
@@ -88,6 +89,7 @@ impl PfdContentsBuilder {
         }
     }
 
+    // One setter a field, as rs-pfcp names them; the lists, the entries and the ready-made records below likewise.
     pub fn flow_description(mut self, place: usize, len: usize) -> PfdContentsBuilder
         ensures { result ≡ with_flow self (text_of place len) }
     {

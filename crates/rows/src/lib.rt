@@ -1,4 +1,4 @@
-// What the programs share: the next line of the input, and rows of text and values.
+// What the programs share: rows of text and values.
 #![tactic(auto)]
 
 mod form;

@@ -17,6 +17,7 @@ pub fn copy(src: &[u8], dst: &mut [u8])
 }
 
 // The place of the first such byte from a place on and before another, and that other where there is none.
+// It is no `Option`, by its clause `value`: what is looked for ends a part, and where it isn't there the part ends all the same.
 pub fn find(s: &[u8], from: usize, to: usize, b: u8) -> usize
     requires { (from ≤ to) × (to ≤ length s.now) }
     ensures value { result ≡ from + index_of b (slice from to s.now) }

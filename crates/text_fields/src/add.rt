@@ -6,6 +6,7 @@ use crate::TextList;
 use answer::Answer;
 
 // What adding an entry answers; the list is as before where it is refused.
+// By `added` the list is as before where it is refused, which an error alone wouldn't say, so it is no `Result`.
 #[derive(Clone, Copy)]
 pub struct ListAdded {
     pub answer: Answer,

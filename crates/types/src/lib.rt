@@ -4,6 +4,7 @@
 ghost use Rattle.std.specs.Prelude.{◌≡◌, ◌%◌, ◌^◌, true};
 
 // A tunnel endpoint identifier.
+// Three types and no generic one: rs-pfcp has these names, and one is never given where another is wanted.
 #[derive(Clone, Copy)]
 pub struct Teid(pub u32);
 

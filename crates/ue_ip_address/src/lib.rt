@@ -23,7 +23,7 @@ pub struct UeIpAddress {
     pub ipv6_prefix_length: Option<u8>,
 }
 
-// A refused read.
+// A refused read; each kind has an empty record of its own.
 fn refused(answer: Answer) -> Read<UeIpAddress>
     ensures { result ≡ refused answer }
 {

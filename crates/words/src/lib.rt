@@ -41,6 +41,7 @@ pub fn head(line: &[u8]) -> &[u8]
 }
 
 // The place behind a word's first `=`; one past its end where there is none.
+// It is no `Option`: `index_of`, of which `key_of` speaks, is the length where there is none.
 fn behind_sign(word: &[u8]) -> usize
     ensures { result ≡ suc (index_of 0x3D word.now) }
 {
