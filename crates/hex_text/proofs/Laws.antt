@@ -261,6 +261,7 @@ length_power n m k e p q = sym (go n e)
   where
     digits : length (decimal m) ≡ k + 1
     digits = omega (arith, decimal_least k m p, decimal_most k m (rw (pow-suc 10 k) (omega arith)))
+
     go : (n : ℕ) → m ≡ max n 1 → length (decimal n) ≡ k + 1
     go zero e = length_one 0 (omega arith) ∙ sym (length_one m (omega arith)) ∙ digits
     go (suc n) e = ap (λ (x : ℕ). length (decimal x)) (omega arith) ∙ digits
