@@ -37,7 +37,7 @@ byte_at d e at i p n bs s m h room q = rw s (rw m (byte_put d e at i bs h room q
 -- four bytes more
 four_put : (d e : List ℕ) (at k : ℕ) (bs : List ℕ) → 4 * k + 4 ≤ length bs → at + length bs ≤ length d → e ≡ put d at (take (4 * k) bs)
     → set (set (set (set e (at + 4 * k) (get_or bs (4 * k) 0)) (at + 4 * k + 1) (get_or bs (4 * k + 1) 0)) (at + 4 * k + 2) (get_or bs (4 * k + 2) 0)) (at + 4 * k + 3) (get_or bs (4 * k + 3) 0)
-        ≡ put d at (take (4 * (k + 1)) bs)
+    ≡ put d at (take (4 * (k + 1)) bs)
 four_put d e at k bs h room q =
     let i = 4 * k in
     let one = byte_at d e at i (at + i) (i + 1) bs refl refl (omega arith) room q in
