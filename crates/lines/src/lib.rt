@@ -1,7 +1,7 @@
 // Lines of the standard input, in a buffer that is read into piece by piece, and what answers them.
 #![tactic(auto)]
 
-ghost use Rattle.std.specs.Prelude.{◌≡◌, ◌+◌, ◌<◌, ◌≤◌, ℕ, length, IfOk};
+ghost use Rattle.std.specs.Prelude.{◌≡◌, ◌+◌, ◌<◌, ◌≤◌, ℕ, length, IfOk, IfSome};
 ghost use Rattle.octets.specs.Octets.{field, put};
 
 use std::io;
@@ -31,10 +31,10 @@ pub trait AnswersLines {
         requires { ready + row_len ≤ length output.old };
 }
 
-// Answers the lines of the standard input on the standard output, in constant memory. A line's end
-// isn't part of it, and the end of the input ends a last line. Of a line that no read ends, no more than `longest` bytes count. What can't
-// be read or written is the end. An output shorter than a row is refused, and so is an input with no byte to read into beside what counts.
-// Input and output are lent memory with what stands in it beside them: constant memory allows no `Vec`.
+// Answers the lines of the standard input on the standard output, in constant memory. A line's end isn't part of it, and the end of the
+// input ends a last line. Of a line that no read ends, no more than `longest` bytes count. What can't be read or written is the end. An
+// output shorter than a row is refused, and so is an input with no byte to read into beside what counts. Input and output are lent memory
+// with what stands in it beside them: constant memory allows no `Vec`.
 pub fn answer_all<R: Input + Print, A: AnswersLines>(
     rt: &R,
     input: &mut [u8],
@@ -51,38 +51,50 @@ pub fn answer_all<R: Input + Print, A: AnswersLines>(
     if output.len() < answer.row_len() {
         return Err(io::Error::from(io::ErrorKind::InvalidInput));
     }
-    let pending = answer_input(rt, input, output, longest, answer)?;
-    if pending == 0 {
-        return Ok(());
-    }
-    let ready = answer_one(answer, &input[..pending], output, 0);
-    Print::write_all(rt, &output[..ready])
+    answer_input(rt, input, output, longest, answer)
 }
 
-// Answers the lines that have an end, and returns how many bytes of an unfinished last one stand at the front of the input.
+// Answers the lines, read by read.
 fn answer_input<R: Input + Print, A: AnswersLines>(
     rt: &R,
     input: &mut [u8],
     output: &mut [u8],
     longest: usize,
     answer: &mut A,
-) -> io::Result<usize>
+) -> io::Result<()>
     requires { (longest < length input.old) × (A.row_len ≤ length output.old) }
-    ensures value { IfOk result (λ pending. pending ≤ longest) }
     ensures input_len { length input.new ≡ length input.old }
     ensures output_len { length output.new ≡ length output.old }
 {
     let mut pending = 0;
     // A proved loop has to end, and nothing says that an input does: no run uses up so many turns.
     for _ in 0..u64::MAX {
-        let end = read_behind(rt, input, pending)?;
-        if end == pending {
+        let read = read_behind(rt, input, pending)?;
+        let end = end_last(input, pending, read);
+        let start = answer_ended(rt, &input[..end], pending, output, answer)?;
+        if read == pending {
             break;
         }
-        let start = answer_ended(rt, &input[..end], pending, output, answer)?;
         pending = move_pending(input, start, end, longest);
     }
-    Ok(pending)
+    Ok(())
+}
+
+// Ends a last line where nothing more was read, and returns where the input ends then. So a line is answered in one place alone, which
+// spares the programs a call for each.
+fn end_last(input: &mut [u8], pending: usize, read: usize) -> usize
+    requires { (pending < length input.old) × (pending ≤ read) × (read ≤ length input.old) }
+    ensures value { (read ≤ result) × (result ≤ length input.old) }
+    ensures input_len { length input.new ≡ length input.old }
+{
+    if pending == 0 {
+        return read;
+    }
+    if pending < read {
+        return read;
+    }
+    input[pending] = b'\n';
+    pending + 1
 }
 
 // Reads once behind the bytes of an unfinished line, where there is room, and returns where the input ends then.
@@ -119,7 +131,7 @@ fn answer_ended<R: Print, A: AnswersLines>(
     let mut start = 0;
     let mut from = searched;
     let mut ready = 0;
-    while let Some(n) = input[from..].iter().position(|b| *b == b'\n') {
+    while let Some(n) = line_end(input, from) {
         ready = make_room(rt, output, ready, answer.row_len())?;
         ready = answer_one(answer, &input[start..from + n], output, ready);
         start = from + n + 1;
@@ -127,6 +139,15 @@ fn answer_ended<R: Print, A: AnswersLines>(
     }
     Print::write_all(rt, &output[..ready])?;
     Ok(start)
+}
+
+// How far behind a place the next end of a line stands. A call of its own: within a program's loop the compiler makes a slower search of it.
+#[inline(never)]
+fn line_end(input: &[u8], from: usize) -> Option<usize>
+    requires { from ≤ length input.now }
+    ensures { IfSome result (λ n. from + n < length input.now) }
+{
+    input[from..].iter().position(|b| *b == b'\n')
 }
 
 // Makes room for a row: writes the output where the longest one doesn't fit behind what is ready, and returns what is ready then.

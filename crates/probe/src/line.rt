@@ -11,8 +11,11 @@ use rows::Value;
 use std::convert::AsSlice;
 use ue_ip_address::UeIpAddress;
 
-// How many bytes a good line has at most: a letter, a space and 65,600 digit pairs.
-const PLAIN: usize = 131202;
+// How many bytes a payload has at most, more than any that is read.
+pub(crate) const PAYLOAD: usize = 65600;
+
+// How many bytes a good line has at most: a letter, a space and so many digit pairs.
+const PLAIN: usize = 2 + 2 * PAYLOAD;
 
 // The same with `V` before them.
 pub(crate) const LONGEST: usize = PLAIN + 1;

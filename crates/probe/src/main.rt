@@ -30,7 +30,7 @@ impl AnswersLines for Rows<'_> {
 // A failed read or write is the end of a filter, with nobody left to tell.
 fn main(rt: HostRuntime) {
     let mut input = stream::buffer();
-    let mut payload = [0u8; 131072];
+    let mut payload = [0u8; line::PAYLOAD];
     let mut output = stream::buffer();
     let longest = line::LONGEST + 1;
     // What is pending of a line leaves room to read, and the longest row has room.
