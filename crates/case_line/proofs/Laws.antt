@@ -170,6 +170,13 @@ module _ (k : Kind) (same : (s : List ℕ) → length (k.clear s) ≡ length s) 
         let row = redo s d d' x.answer x.used (value x.«record») (refused x.«record») wrote.written r b h (ap (λ (x : Read T). x.answer) e ∙ ea) (ap (λ (x : Read T). x.used) e ∙ eu) (ap (λ (x : Read T). value x.«record») e ∙ ev) able (rw wrote.shows at m.0) (sym wrote.leaves ∙ (rw wrote.shows at m.1)) wrote.is in
         record { bytes_after = ap Some row.bytes_after; len_in_bounds = row.len_in_bounds }
 
+-- a row that isn't there, and one that is
+pub no_row : (r : Option LineRow) (bs : List ℕ) (o : Option Row) → option_map (row_in bs) r ≡ o → r ≡ None → None ≡ o
+no_row r bs o e h = rw h at e
+
+pub a_row : (r : Option LineRow) (bs : List ℕ) (o : Option Row) (x : LineRow) → option_map (row_in bs) r ≡ o → r ≡ Some x → Some (row x.number x.used (take x.len bs)) ≡ o
+a_row r bs o x e h = rw h at e
+
 -- the beginning of a list, no longer than asked
 pub take_most : (n m : ℕ) (bs : List ℕ) → n ≤ m → length (take n bs) ≤ m
 take_most n m bs h = omega (arith, length-take n bs)
@@ -210,6 +217,13 @@ payload_pairs (x ∷ y ∷ text) d d' len o h g l e q r t =
 -- the row of a letter and a text, by the payload that was found
 pub text_row : (letter : ℕ) (text d : List ℕ) (o o' : Option ℕ) → payload text ≡ option_map (λ len. take len d) o → o ≡ o' → option_and_then (row_for letter) (payload text) ≡ option_and_then (row_for letter) (option_map (λ len. take len d) o')
 text_row letter text d o o' e h = rw (e, h)
+
+-- the row of a letter and a text, by its payload
+pub good_text : (letter : ℕ) (good : Bool) (text bs : List ℕ) → payload text ≡ pick good (Some bs) None → good ≡ true → option_and_then (row_for letter) (payload text) ≡ row_for letter bs
+good_text letter good text bs e g = rw (e, g)
+
+pub bad_text : (letter : ℕ) (good : Bool) (text bs : List ℕ) → payload text ≡ pick good (Some bs) None → good ≡ false → option_and_then (row_for letter) (payload text) ≡ None
+bad_text letter good text bs e g = rw (e, g)
 
 -- ---- the row of a line
 pub too_short : (line : List ℕ) → length line < 2 → line_row line ≡ None

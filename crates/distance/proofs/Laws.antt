@@ -24,11 +24,17 @@ unfolding distance
 above from to (inl h) = rw (lt-leb from 16777215 h)
 above from to (inr h) = rw (le-leb from 16777215 h.0, lt-leb to 16777215 h.1)
 
+pub above_from : (from to : ℕ) → 16777215 < from → record { answer = NoSequenceNumber; value = pos 0 } ≡ distance from to
+above_from from to h = above from to (inl h)
+
+pub above_to : (from to : ℕ) → from ≤ 16777215 → 16777215 < to → record { answer = NoSequenceNumber; value = pos 0 } ≡ distance from to
+above_to from to g h = above from to (inr (g, h))
+
 -- a number of steps below the circle, as an i32, and with the circle taken away
 steps : (f : ℕ) → f < 16777216 → to_z w32 f ≡ pos f
 steps f h = to_z_pos w32 f (omega arith)
 
-back_fits : (r : ℕ) → SFits w32 (to_z w32 (r % 16777216) -ℤ pos 16777216)
+pub back_fits : (r : ℕ) → SFits w32 (to_z w32 (r % 16777216) -ℤ pos 16777216)
 back_fits r =
     let f = r % 16777216 in
     let e = ap (λ (z : ℤ). z -ℤ pos 16777216) (steps f (omega arith)) ∙ back f (omega arith) in
@@ -39,24 +45,38 @@ module _ (from to : ℕ) (g : from ≤ 16777215) (h : to ≤ 16777215) where
   unfolding distance
   done d e = rw (le-leb from 16777215 g, le-leb to 16777215 h, e)
 
+  -- whatever number of steps leads there around 2 to the 32nd
+  module _ (r : ℕ) (fits : r < 4294967296) (wraps : (r + from) % 4294967296 ≡ to) where
+    is_forward : r % 16777216 ≡ forward from to
+    is_forward = omega arith
+
+    pub done_near : r % 16777216 < 8388608 → record { answer = Done; value = to_z w32 (r % 16777216) } ≡ distance from to
+    done_near k = done _ (steps (r % 16777216) (omega arith) ∙ sym (near (r % 16777216) k) ∙ ap (λ (f : ℕ). signed (ltb f 8388608) f) is_forward)
+
+    pub done_far : 8388608 ≤ r % 16777216 → record { answer = Done; value = to_z w32 (of_z w32 (to_z w32 (r % 16777216) -ℤ pos 16777216)) } ≡ distance from to
+    done_far k =
+        done _
+        (to_z-of_z w32 _ (back_fits r)
+        ∙ ap (λ (z : ℤ). z -ℤ pos 16777216) (steps (r % 16777216) (omega arith))
+        ∙ back (r % 16777216) (omega arith)
+        ∙ sym (far (r % 16777216) k (omega arith))
+        ∙ ap (λ (f : ℕ). signed (ltb f 8388608) f) is_forward)
+
   -- the code's number of steps forward: it subtracts around 2 to the 32nd
   abbrev wrapped : ℕ
   wrapped = (to + (4294967296 - from)) % 4294967296
 
-  is_forward : wrapped % 16777216 ≡ forward from to
-  is_forward = omega arith
+  wrapped_fits : wrapped < 4294967296
+  wrapped_fits = omega arith
 
-  pub done_near : wrapped % 16777216 < 8388608 → record { answer = Done; value = to_z w32 (wrapped % 16777216) } ≡ distance from to
-  done_near k = done _ (steps (wrapped % 16777216) (omega arith) ∙ sym (near (wrapped % 16777216) k) ∙ ap (λ (f : ℕ). signed (ltb f 8388608) f) is_forward)
+  wrapped_wraps : (wrapped + from) % 4294967296 ≡ to
+  wrapped_wraps = omega arith
 
-  pub done_far : 8388608 ≤ wrapped % 16777216 → record { answer = Done; value = to_z w32 (of_z w32 (to_z w32 (wrapped % 16777216) -ℤ pos 16777216)) } ≡ distance from to
-  done_far k =
-      done _
-      (to_z-of_z w32 _ (back_fits wrapped)
-      ∙ ap (λ (z : ℤ). z -ℤ pos 16777216) (steps (wrapped % 16777216) (omega arith))
-      ∙ back (wrapped % 16777216) (omega arith)
-      ∙ sym (far (wrapped % 16777216) k (omega arith))
-      ∙ ap (λ (f : ℕ). signed (ltb f 8388608) f) is_forward)
+  pub wrapped_near : wrapped % 16777216 < 8388608 → record { answer = Done; value = to_z w32 (wrapped % 16777216) } ≡ distance from to
+  wrapped_near k = done_near wrapped wrapped_fits wrapped_wraps k
+
+  pub wrapped_far : 8388608 ≤ wrapped % 16777216 → record { answer = Done; value = to_z w32 (of_z w32 (to_z w32 (wrapped % 16777216) -ℤ pos 16777216)) } ≡ distance from to
+  wrapped_far k = done_far wrapped wrapped_fits wrapped_wraps k
 
 -- ---- what the distance is worth
 in_range : (d : ℤ) → mag d ≤ 8388607 → InRange d

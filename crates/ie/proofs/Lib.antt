@@ -3,3 +3,7 @@ pub mod Walks
 pub mod Tables
 pub mod Calls
 pub mod Laws
+pub mod KeptLists
+pub mod KeptEnvelopes
+pub mod KeptTables
+pub mod KeptCalls

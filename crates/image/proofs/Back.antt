@@ -67,6 +67,13 @@ number_below_law w bs b h = go (is_number w bs) refl
     go true e = number_fits w bs true e refl _ (big_endian_less_law bs b)
     go false e = h
 
+module _ (bs : List ℕ) (b : Bytes bs) where
+  pub u16_below : unwrap_or (number_of 2 bs) 0 < 256 ^ 2
+  u16_below = number_below_law 2 bs b (omega arith)
+
+  pub u32_below : unwrap_or (number_of 4 bs) 0 < 256 ^ 4
+  u32_below = number_below_law 4 bs b (omega arith)
+
 -- ---- bytes that stand at a place, whatever is behind them
 pub record Stands (m : List ℕ) (at : ℕ) (bytes : List ℕ) : Type 0 where
   pub rest : List ℕ

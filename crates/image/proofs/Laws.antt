@@ -52,6 +52,9 @@ zeros (suc n) (suc m) = zeros n m
 pub part_at : {A : Type 0} (f : List ℕ → A) (m p : List ℕ) (at u w : ℕ) (g : Bool) (r : A) → u ≡ if_set g w → p ≡ take u (drop at m) → r ≡ f p → r ≡ f (field m at (if_set g w))
 part_at f m p at u w g r k q e = rw (q, k) at e
 
+pub part_value_law : {A : Type 0} (f : List ℕ → A) (value : A → ℕ) (m p : List ℕ) (at u w : ℕ) (g : Bool) (r : A) → u ≡ if_set g w → p ≡ take u (drop at m) → r ≡ f p → value r ≡ value (f (field m at (if_set g w)))
+part_value_law f value m p at u w g r k q e = ap value (part_at f m p at u w g r k q e)
+
 -- ---- bytes put before those that stand already are one put of the joined bytes
 over_before : (d : List ℕ) (at m : ℕ) (xs ys : List ℕ) → m ≡ at + length xs → m + length ys ≤ length d → over (over d m ys) at xs ≡ over d at (xs ++ ys)
 unfolding over
@@ -118,12 +121,18 @@ module _ {d d' ys : List ℕ} {size m : ℕ} (b : Back d size m ys d') where
   pub then_part : {e : List ℕ} (w at : ℕ) (xs : List ℕ) → length xs ≡ w → e ≡ put d' at xs → m ≡ at + w → Back d size at (xs ++ ys) e
   then_part w at xs l q k = step at xs q (omega arith)
 
+  pub then_field : {e : List ℕ} (w at : ℕ) (a : Option (List ℕ)) → IfSome a (λ bs. length bs ≡ w) → e ≡ put d' at (address_bytes w a) → m ≡ at + w → Back d size at (address_bytes w a ++ ys) e
+  then_field w at a l q k = then_part w at (address_bytes w a) (length_address_bytes w a l) q k
+
   pub then_head : {e : List ℕ} (a : Answer) (n : ℕ) → e ≡ put d' 0 (head a n) → m ≡ 40 → e ≡ put d 0 (head a n ++ ys)
   then_head a n q k = (step 0 (head a n) q (omega (arith, length_head a n))).is
 
 -- the last field of an image
 pub last_part : {d e : List ℕ} (size w at : ℕ) (xs : List ℕ) → size ≤ length d → length xs ≡ w → at + w ≡ size → e ≡ put d at xs → Back d size at xs e
 last_part size w at xs r l k q = record { room = r; ends = omega arith; is = q }
+
+pub last_field : {d e : List ℕ} (size w at : ℕ) (a : Option (List ℕ)) → size ≤ length d → IfSome a (λ bs. length bs ≡ w) → at + w ≡ size → e ≡ put d at (address_bytes w a) → Back d size at (address_bytes w a) e
+last_field size w at a r l k q = last_part size w at (address_bytes w a) r (length_address_bytes w a l) k q
 
 -- ---- the image of a refused read
 module _ (size : ℕ) (d : List ℕ) (a : Answer) where

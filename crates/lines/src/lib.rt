@@ -1,7 +1,7 @@
 // Lines of the standard input, in a buffer that is read into piece by piece, and what answers them.
 #![tactic(auto)]
 
-ghost use Rattle.std.specs.Prelude.{◌≡◌, ◌<◌, ◌≤◌, length, IfOk};
+ghost use Rattle.std.specs.Prelude.{◌≡◌, ◌+◌, ◌<◌, ◌≤◌, ℕ, length, IfOk};
 ghost use Rattle.octets.specs.Octets.{field, put};
 
 use std::io;
@@ -19,21 +19,56 @@ pub fn to_front(buffer: &mut [u8], from: usize, n: usize) -> usize
     count
 }
 
-// Answers the lines of the standard input on the standard output, in constant memory: `answer` puts what answers a line at the front
-// of a room, `row` bytes long at least, and returns how many bytes that takes. A line's end isn't part of it, and the end of the input
-// ends a last line. Of a line that no read ends, no more than `longest` bytes count. What can't be read or written is the end.
+// What answers lines, each by a row of so many bytes at most.
+pub trait AnswersLines {
+    ghost row_len: { ℕ };
+
+    fn row_len(&self) -> usize
+        ensures { result ≡ row_len };
+
+    // Puts what answers a line behind what is ready of an output, and returns where it ends. `answer_all` calls it, where there is room.
+    fn answer(&mut self, line: &[u8], output: &mut [u8], ready: usize) -> usize
+        requires { ready + row_len ≤ length output.old };
+}
+
+// Answers the lines of the standard input on the standard output, in constant memory. A line's end
+// isn't part of it, and the end of the input ends a last line. Of a line that no read ends, no more than `longest` bytes count. What can't
+// be read or written is the end. An output shorter than a row is refused, and so is an input with no byte to read into beside what counts.
 // Input and output are lent memory with what stands in it beside them: constant memory allows no `Vec`.
-pub fn answer_all<R: Input + Print, F: FnMut(&[u8], &mut [u8]) -> usize>(
+pub fn answer_all<R: Input + Print, A: AnswersLines>(
     rt: &R,
     input: &mut [u8],
     output: &mut [u8],
     longest: usize,
-    row: usize,
-    mut answer: F,
+    answer: &mut A,
 ) -> io::Result<()>
-    requires longest { longest < length input.old }
-    requires row { row ≤ length output.old }
-    requires answer { (state : F) (line : _) (room : _) → row ≤ length room.now → F.pre state line room }
+    ensures input_len { length input.new ≡ length input.old }
+    ensures output_len { length output.new ≡ length output.old }
+{
+    if input.len() <= longest {
+        return Err(io::Error::from(io::ErrorKind::InvalidInput));
+    }
+    if output.len() < answer.row_len() {
+        return Err(io::Error::from(io::ErrorKind::InvalidInput));
+    }
+    let pending = answer_input(rt, input, output, longest, answer)?;
+    if pending == 0 {
+        return Ok(());
+    }
+    let ready = answer_one(answer, &input[..pending], output, 0);
+    Print::write_all(rt, &output[..ready])
+}
+
+// Answers the lines that have an end, and returns how many bytes of an unfinished last one stand at the front of the input.
+fn answer_input<R: Input + Print, A: AnswersLines>(
+    rt: &R,
+    input: &mut [u8],
+    output: &mut [u8],
+    longest: usize,
+    answer: &mut A,
+) -> io::Result<usize>
+    requires { (longest < length input.old) × (A.row_len ≤ length output.old) }
+    ensures value { IfOk result (λ pending. pending ≤ longest) }
     ensures input_len { length input.new ≡ length input.old }
     ensures output_len { length output.new ≡ length output.old }
 {
@@ -44,14 +79,10 @@ pub fn answer_all<R: Input + Print, F: FnMut(&[u8], &mut [u8]) -> usize>(
         if end == pending {
             break;
         }
-        let start = answer_ended(rt, &input[..end], pending, output, row, &mut answer)?;
-        pending = to_front(input, start, longest.min(end - start));
+        let start = answer_ended(rt, &input[..end], pending, output, answer)?;
+        pending = move_pending(input, start, end, longest);
     }
-    if pending == 0 {
-        return Ok(());
-    }
-    let last = answer(&input[..pending], output).min(output.len());
-    Print::write_all(rt, &output[..last])
+    Ok(pending)
 }
 
 // Reads once behind the bytes of an unfinished line, where there is room, and returns where the input ends then.
@@ -63,35 +94,64 @@ fn read_behind<R: Input>(rt: &R, input: &mut [u8], pending: usize) -> io::Result
     Ok(pending + n)
 }
 
+// Moves the unfinished line to the front of the input, as much of it as counts, and returns how much that is.
+fn move_pending(input: &mut [u8], start: usize, end: usize, longest: usize) -> usize
+    requires { (start ≤ end) × (end ≤ length input.old) }
+    ensures value { result ≤ longest }
+    ensures input_len { length input.new ≡ length input.old }
+{
+    to_front(input, start, longest.min(end - start))
+}
+
 // Answers the lines that have an end, and returns where the first without one starts. There is none in the first `searched` bytes.
 // A walk from end to end: a `for` over parts would take the last one, which has no end, for a line, and search those bytes again.
-fn answer_ended<R: Print, F: FnMut(&[u8], &mut [u8]) -> usize>(
+fn answer_ended<R: Print, A: AnswersLines>(
     rt: &R,
     input: &[u8],
     searched: usize,
     output: &mut [u8],
-    row: usize,
-    answer: &mut F,
+    answer: &mut A,
 ) -> io::Result<usize>
-    requires searched { searched ≤ length input.now }
-    requires room { row ≤ length output.old }
-    requires answer { (state : F) (line : _) (room : _) → row ≤ length room.now → F.pre state line room }
-    ensures { IfOk result (λ start. start ≤ length input.now) }
+    requires { (searched ≤ length input.now) × (A.row_len ≤ length output.old) }
+    ensures value { IfOk result (λ start. start ≤ length input.now) }
+    ensures output_len { length output.new ≡ length output.old }
 {
     let mut start = 0;
     let mut from = searched;
     let mut ready = 0;
     while let Some(n) = input[from..].iter().position(|b| *b == b'\n') {
-        if output.len() - ready < row {
-            Print::write_all(rt, &output[..ready])?;
-            ready = 0;
-        }
-        let room = &mut output[ready..];
-        let most = room.len();
-        ready += answer(&input[start..from + n], room).min(most);
+        ready = make_room(rt, output, ready, answer.row_len())?;
+        ready = answer_one(answer, &input[start..from + n], output, ready);
         start = from + n + 1;
         from = start;
     }
     Print::write_all(rt, &output[..ready])?;
     Ok(start)
+}
+
+// Makes room for a row: writes the output where the longest one doesn't fit behind what is ready, and returns what is ready then.
+fn make_room<R: Print>(rt: &R, output: &[u8], ready: usize, row: usize) -> io::Result<usize>
+    requires { (ready ≤ length output.now) × (row ≤ length output.now) }
+    ensures { IfOk result (λ ready. ready + row ≤ length output.now) }
+{
+    if output.len() - ready < row {
+        Print::write_all(rt, &output[..ready])?;
+        return Ok(0);
+    }
+    Ok(ready)
+}
+
+// Has a line answered where there is room for a row, and returns where what is ready ends.
+fn answer_one<A: AnswersLines>(
+    answer: &mut A,
+    line: &[u8],
+    output: &mut [u8],
+    ready: usize,
+) -> usize
+    requires { ready + A.row_len ≤ length output.old }
+    ensures value { result ≤ length output.old }
+    ensures output_len { length output.new ≡ length output.old }
+{
+    let most = output.len();
+    answer.answer(line, output, ready).min(most)
 }

@@ -18,12 +18,13 @@ use Rattle.answer.specs.declared.Answer.{Answer}
 use Rattle.answer.specs.declared.Answer.TheVariants.{Short, NodeType, NotUtf8, InputTooLong}
 use Rattle.answer.specs.declared.Read.{Read}
 use Rattle.octets.specs.Octets.{pick, field, address_of}
+use Rattle.octets.proofs.Laws.{length_field, address_there}
 use Rattle.text.specs.Utf8.{good_len, bad_len, checked}
 use Rattle.texts.specs.declared.Text.{Text}
 use Rattle.kind.specs.Layout.{clear}
 use Rattle.kind.proofs.Laws.{length_clear}
 use Rattle.node_id.specs.declared.NodeId.{NodeId}
-use Rattle.node_id.specs.NodeId.{refused, accepted, read_address, read_fqdn, by_type, read}
+use Rattle.node_id.specs.NodeId.{of_ipv4, of_ipv6, named, refused, accepted, read_address, read_ipv4, read_ipv6, read_fqdn, by_type, read}
 use Rattle.node_id.specs.declared.NodeId.TheVariants.{Fqdn}
 use Rattle.node_id.specs.Steps.{outcome, address_behind, name_behind}
 
@@ -71,6 +72,17 @@ address_part number width s g =
       | inr h ↦ rw (one, ne_eqb (length (take width (drop 1 s))) width (λ e. omega arith), lt-leb (suc width) (length s) (omega arith))
     ]
 
+module _ (s : List ℕ) (x : NodeId) where
+  pub whole_ipv4 : (a : List ℕ) → 5 ≤ length s → Some a ≡ address_of 4 (field s 1 4) → x ≡ of_ipv4 a → accepted 5 x ≡ read_ipv4 s
+  whole_ipv4 a h p q =
+      let e : Some a ≡ Some (field s 1 4) = p ∙ address_there 4 (field s 1 4) (length_field 1 4 s h) in
+      whole_address s 1 4 of_ipv4 h (let y : a ≡ field s 1 4 = cc in y) q
+
+  pub whole_ipv6 : (a : List ℕ) → 17 ≤ length s → Some a ≡ address_of 16 (field s 1 16) → x ≡ of_ipv6 a → accepted 17 x ≡ read_ipv6 s
+  whole_ipv6 a h p q =
+      let e : Some a ≡ Some (field s 1 16) = p ∙ address_there 16 (field s 1 16) (length_field 1 16 s h) in
+      whole_address s 2 16 of_ipv6 h (let y : a ≡ field s 1 16 = cc in y) q
+
 -- what the part gave
 module _ (s : List ℕ) (number width : ℕ) (make : List ℕ → NodeId) (h : 0 < length s) where
   pub found_part : {a : List ℕ} → Some a ≡ address_of width (take width (drop 1 s)) → accepted (suc width) (make a) ≡ read_address number width make s
@@ -98,6 +110,17 @@ module _ (s : List ℕ) (h : 0 < length s) (g : ℕ) (e : g ≡ good_len (take (
   pub whole : g ≡ length (take (length s - 1) (drop 1 s)) → Ok (record { place = 1; len = g }) ≡ name_behind s
   unfolding name_behind
   whole n = rw (← all_behind, eq-eqb (1 + g) (length s) (omega (arith, ap length behind, length-drop 1 s)))
+
+  pub garbled_name : (r : Read NodeId) (bad : ℕ) → (g ≡ length s - 1 → ⊥) → bad ≡ bad_len (drop g (take (length s - 1) (drop 1 s)))
+      → r ≡ refused (NotUtf8 (1 + g) bad) → r ≡ read_fqdn s
+  unfolding read_fqdn checked
+  garbled_name r bad n b q =
+      let how : bad ≡ bad_len (drop g (drop 1 s)) = b ∙ ap (λ (l : List ℕ). bad_len (drop g l)) behind in
+      rw (← all_behind, ne_eqb (1 + g) (length s) (λ f. n (omega arith)), ← how) q
+
+  pub whole_name : (x : NodeId) → g ≡ length s - 1 → x ≡ named 1 g → accepted (length s) x ≡ read_fqdn s
+  unfolding read_fqdn
+  whole_name x n q = rw (← all_behind, eq-eqb (1 + g) (length s) (omega arith), q)
 
 -- what the step on the way found
 module _ (s : List ℕ) where

@@ -190,6 +190,46 @@ number_bytes (suc w) x h =
     let h' : x / 256 < 256 ^ w = (div-lt_iff_lt-mul {k = 256} (lit< tt)).1 (rw pow-suc at h) in
     behind_append 0 (big_endian_bytes w (x / 256)) (x % 256 ∷ []) ∙ rw (number_bytes w (x / 256) h') (div-add-mod' x 256)
 
+-- the digits of four bytes, least significant first
+module _ (a b c d x : ℕ) (ha : a < 256) (hb : b < 256) (hc : c < 256) (e : x ≡ a + b * 256 + c * 65536 + d * 16777216) where
+  above_one : x ≡ (b + c * 256 + d * 65536) * 256 + a
+  above_one = omega arith
+
+  above_two : x ≡ (c + d * 256) * 65536 + (b * 256 + a)
+  above_two = omega arith
+
+  above_three : x ≡ d * 16777216 + (c * 65536 + b * 256 + a)
+  above_three = omega arith
+
+  digit_one : x % 256 ≡ a
+  digit_one = ap (λ (n : ℕ). n % 256) above_one ∙ digits_mod (b + c * 256 + d * 65536) ha
+
+  digit_two : x / 256 % 256 ≡ b
+  digit_two =
+      let next : b + c * 256 + d * 65536 ≡ (c + d * 256) * 256 + b = omega arith in
+      ap (λ (n : ℕ). n % 256) (ap (λ (n : ℕ). n / 256) above_one ∙ digits_div (b + c * 256 + d * 65536) ha ∙ next) ∙ digits_mod (c + d * 256) hb
+
+  digit_three : x / 65536 % 256 ≡ c
+  digit_three =
+      let small : b * 256 + a < 65536 = omega arith in
+      let next : c + d * 256 ≡ d * 256 + c = omega arith in
+      ap (λ (n : ℕ). n % 256) (ap (λ (n : ℕ). n / 65536) above_two ∙ digits_div (c + d * 256) small ∙ next) ∙ digits_mod d hc
+
+  digit_four : x / 16777216 ≡ d
+  digit_four =
+      let small : c * 65536 + b * 256 + a < 16777216 = omega arith in
+      ap (λ (n : ℕ). n / 16777216) above_three ∙ digits_div d small
+
+weights : (a b c d : ℕ) → a * 16777216 + b * 65536 + c * 256 + d ≡ ((a * 256 + b) * 256 + c) * 256 + d
+weights a b c d = omega arith
+
+-- and with the bytes swapped
+pub swapped_four : (a b c d x r : ℕ) → a < 256 → b < 256 → c < 256 → x ≡ a + b * 256 + c * 65536 + d * 16777216
+    → r ≡ x % 256 * 16777216 + x / 256 % 256 * 65536 + x / 65536 % 256 * 256 + x / 16777216
+    → r ≡ ((a * 256 + b) * 256 + c) * 256 + d
+swapped_four a b c d x r ha hb hc e q =
+    q ∙ rw (digit_one a b c d x ha hb hc e, digit_two a b c d x ha hb hc e, digit_three a b c d x ha hb hc e, digit_four a b c d x ha hb hc e) (weights a b c d)
+
 -- what `number` gives of four and of eight bytes
 pub number_four : (bs : List ℕ) (x : ℕ) → length bs ≡ 4 → x ≡ ((get_or bs 0 0 * 256 + get_or bs 1 0) * 256 + get_or bs 2 0) * 256 + get_or bs 3 0 → x ≡ big_endian bs
 unfolding behind
@@ -274,6 +314,12 @@ module _ (f : Bool) (w : ℕ) (bs : List ℕ) (b : Bytes bs) (h : 0 < w) (e : le
   pub number_again : number_if w (presence f (big_endian bs)) ≡ bs
   number_again = number_back f refl e
 
+  -- of one of two, one that is given and one that is absent
+  means_either : {R : Type 0} (given : R → Bool) (value : R → ℕ) (x y : R) → given x ≡ true → value x ≡ big_endian bs → given y ≡ false → (t : Bool) → presence (given (pick t x y)) (value (pick t x y)) ≡ presence t (big_endian bs)
+  unfolding presence
+  means_either given value x y gx vx gy true = rw (gx, vx)
+  means_either given value x y gx vx gy false = rw gy
+
   -- of one that stands in its record
   pub number_written : (m : ℕ) → w ≤ m → number_if w (number_of m bs) ≡ bs
   unfolding number_of presence
@@ -297,6 +343,11 @@ unfolding bytes_if if_set
 length_bytes_if n (Some bs) e = e
 length_bytes_if n None e = refl
 
+pub given_length : (g : Bool) (n : ℕ) (bs : List ℕ) → length bs ≡ n → length (bytes_if (presence g bs)) ≡ if_set g n
+unfolding bytes_if if_set presence
+given_length true n bs e = e
+given_length false n bs e = refl
+
 -- an address that was read is written as it stood, where its field has its width or none
 module _ (f : Bool) (bs : List ℕ) where
   some_or_none : (n : ℕ) → length bs ≡ if_set f (suc n) → (t : Bool) → eqb (length bs) (suc n) ≡ t → pick t bs [] ≡ bs
@@ -308,6 +359,12 @@ module _ (f : Bool) (bs : List ℕ) where
       empty true bs e q = absurd (eqb-false _ _ q e)
       empty false [] e q = refl
       empty false (b ∷ bs) e q = absurd (omega arith)
+
+  bytes_either : {R : Type 0} (given : R → Bool) (octets : R → List ℕ) (x y : R) (n : ℕ) → given x ≡ true → octets x ≡ bs → given y ≡ false → length bs ≡ if_set f (suc n) → (t : Bool) → eqb (length bs) (suc n) ≡ t
+      → bytes_if (presence (given (pick t x y)) (octets (pick t x y))) ≡ bs
+  unfolding presence bytes_if
+  bytes_either given octets x y n gx ox gy e true q = rw (gx, ox)
+  bytes_either given octets x y n gx ox gy e false q = rw gy (some_or_none n e false q)
 
   pub address_written : (n : ℕ) → 0 < n → length bs ≡ if_set f n → bytes_if (address_of n bs) ≡ bs
   unfolding address_of if_set bytes_if

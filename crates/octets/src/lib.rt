@@ -205,7 +205,8 @@ pub fn put_given(out: &mut [u8], at: usize, bs: Option<&[u8]>)
     }
 }
 
-// Every address that is written is put here, byte by byte: handed on as a slice it would have to stand on the stack.
+// Every address that is written is put here, byte by byte: handed on as a slice it would have to stand on the stack. So it would by a loop
+// over single bytes, which the compiler makes a copy of memory: where they are fours, four go at a time.
 
 // Whether w bytes have room from a place on.
 fn has_room(room: usize, at: usize, w: usize) -> bool
@@ -227,8 +228,18 @@ pub fn put_address<const N: usize>(out: &mut [u8], at: usize, address: Option<[u
     if !has_room(out.len(), at, N) {
         return;
     }
-    for i in 0..N {
+    if N % 4 != 0 {
+        for i in 0..N {
+            out[at + i] = octets[i];
+        }
+        return;
+    }
+    for k in 0..N / 4 {
+        let i = 4 * k;
         out[at + i] = octets[i];
+        out[at + i + 1] = octets[i + 1];
+        out[at + i + 2] = octets[i + 2];
+        out[at + i + 3] = octets[i + 3];
     }
 }
 

@@ -10,7 +10,8 @@ use lib.ListN.{length, get_or}
 use Rattle.types.specs.declared.Teid.{Teid}
 use Rattle.octets.specs.Octets.{pick, if_set, big_endian_bytes, number_if}
 use Rattle.outer_header_creation.specs.declared.FieldEnds.{FieldEnds}
-use Rattle.outer_header_creation.specs.OuterHeaderCreation.{flags_of, asked, sent_if}
+use Rattle.outer_header_creation.specs.declared.OuterHeaderCreation.{OuterHeaderCreation}
+use Rattle.outer_header_creation.specs.OuterHeaderCreation.{Flags, flags_of, asked, sent_if, untagged}
 use Rattle.outer_header_creation.specs.Steps.{ends_of}
 
 -- where the fields that a payload's first byte asks for end
@@ -59,3 +60,14 @@ module _ (f : Bool) (w : ℕ) (bs : List ℕ) (e : length bs ≡ if_set f w) whe
       go true None e q = absurd (omega (arith, ap length q))
       go true (Some x) e q = q
       go false o e q = no_bytes bs e
+
+-- ---- a record of parts that calls handed over
+pub of_parts : (r : OuterHeaderCreation) (f f' : Flags) (t t' : Option Teid) (a a' b b' : Option (List ℕ)) (p p' : Option ℕ)
+    → r ≡ untagged f t a b p
+    → f ≡ f'
+    → t ≡ t'
+    → a ≡ a'
+    → b ≡ b'
+    → p ≡ p'
+    → r ≡ untagged f' t' a' b' p'
+of_parts r f f' t t' a a' b b' p p' q e1 e2 e3 e4 e5 = rw (e1, e2, e3, e4, e5) at q

@@ -13,7 +13,7 @@ use Rattle.text_fields.specs.Fields.{bad, is_maybe, is_list}
 use Rattle.text_fields.specs.Steps.{first_bad, text_bytes, run_bytes}
 use Rattle.pfd_contents.specs.PfdContents.{tested}
 use Rattle.pfd_contents.specs.Steps.{as_refusal, wire_by_runs}
-use Rattle.text_fields.proofs.Stores.{some_text, field_length, Stored, more, begun}
+use Rattle.text_fields.proofs.Stores.{no_text_law, some_text, field_length, Stored, more, begun}
 use Rattle.texts.specs.declared.Text.{Text}
 use Rattle.text_fields.specs.declared.TextList.{TextList}
 use Rattle.pfd_contents.specs.declared.PfdContents.{PfdContents}
@@ -58,6 +58,9 @@ all_tested t r {b₁} {b₂} {b₃} {b₄} {b₅} {b₆} {b₇} {b₈} e₁ e₂
     ∙ simp then_assoc
 
 -- ---- how many bytes a text and a list are written as
+
+pub none_width : (t : List ℕ) (x : Option Text) → x ≡ None → 0 ≡ length (text_bytes t x)
+none_width t x h = rw (no_text_law t x h)
 
 module _ (t : List ℕ) (x : Text) (p : List ℕ) (e : p ≡ take x.len (drop x.place t)) where
   pub text_width : length p + 2 ≡ length (text_bytes t (Some x))

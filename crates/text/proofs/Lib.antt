@@ -4,4 +4,5 @@ pub mod Laws
 pub mod Longest
 pub mod Parts
 pub mod Broken
+pub mod Kept
 pub mod Examples

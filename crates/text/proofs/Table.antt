@@ -87,7 +87,7 @@ row_for_law h ((r ∷ row) ∷ l) (suc k) b o p e =
     rw (above_range r b (omega (arith, later, (range_in (get_or (get_or l k []) 0 trail) b e).0))) (row_for_law (suc r.high) l k b o.2 (le_of_suc-le-suc p) e)
 
 -- A row that was found has the text's first byte in it.
-found_agrees : (l : List (List Range)) (s : List ℕ) → 0 < length s → 0 < length (row_for l (get_or s 0 0)) → 0 < agree (row_for l (get_or s 0 0)) s
+pub found_agrees : (l : List (List Range)) (s : List ℕ) → 0 < length s → 0 < length (row_for l (get_or s 0 0)) → 0 < agree (row_for l (get_or s 0 0)) s
 unfolding row_for
 found_agrees [] s p q = absurd (not-suc-le-zero q)
 found_agrees (row ∷ l) s p q = go row (within (get_or row 0 trail) (get_or s 0 0)) refl (found_agrees l s p) q
@@ -102,7 +102,7 @@ found_agrees (row ∷ l) s p q = go row (within (get_or row 0 trail) (get_or s 0
     go row false e h q = h q
 
 -- A row all of whose ranges agree with the text is the first such row.
-full_row : (h : ℕ) (l : List (List Range)) (k : ℕ) (s : List ℕ) → Rising h l → k < length l → agree (get_or l k []) s ≡ length (get_or l k [])
+pub full_row : (h : ℕ) (l : List (List Range)) (k : ℕ) (s : List ℕ) → Rising h l → k < length l → agree (get_or l k []) s ≡ length (get_or l k [])
     → seq_len l s ≡ length (get_or l k [])
 unfolding Rising seq_len
 full_row h [] k s o p e = absurd (not-suc-le-zero p)

@@ -191,9 +191,11 @@ fn ascii_rest(text: &[u8], from: usize) -> bool
     requires { from ≤ length text.now }
     ensures { result ≡ true → Passed text.now from (length text.now) }
 {
-    let Some(at) = text.len().checked_sub(WORD) else {
+    // With `checked_sub` a text would cost eleven instructions more.
+    if text.len() < WORD {
         return false;
-    };
+    }
+    let at = text.len() - WORD;
     from >= at && ascii_at(text, at, WORD)
 }
 

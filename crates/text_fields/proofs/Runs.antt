@@ -11,7 +11,8 @@ use lib.ListN.{length, take, drop}
 use Rattle.octets.specs.Octets.{pick, big_endian}
 use Rattle.octets.proofs.Laws.{number_part, part_below}
 use Rattle.text.specs.Utf8.{good_len, bad_len, checked}
-use Rattle.text_fields.specs.Fields.{length_at, field_at, text_at, text_of, entries, run, on_field, is_empty, is_list}
+use Rattle.text_fields.specs.Fields.{length_at, field_at, text_at, text_of, entries, run, on_field, is_maybe, is_empty, is_list}
+use Rattle.texts.specs.Texts.{is_text}
 use Rattle.texts.specs.declared.Text.{Text}
 use Rattle.text_fields.specs.declared.TextList.{TextList}
 use Rattle.text_fields.specs.declared.Fault.{Fault}
@@ -162,6 +163,16 @@ bounded s most at count {k} {to} =
         → (d : ℕ) → k - (count + 1) ≡ d → at + 2 * (k - count) ≤ length s
     by at count t q ih zero z = omega (arith, whole_end s at (sym q) refl)
     by at count t q ih (suc d) z = omega (arith, whole_end s at (sym q) refl, ih.1 (omega arith))
+
+-- ---- texts that can be
+
+pub maybe_not : (t : List ℕ) (x : Option Text) → x ≡ None → true ≡ is_maybe t x
+unfolding is_maybe
+maybe_not t x h = rw h
+
+pub maybe_good : (t : List ℕ) (x : Option Text) (b : Bool) (w : Text) → x ≡ Some w → b ≡ is_text t w → b ≡ is_maybe t x
+unfolding is_maybe
+maybe_good t x b w h e = rw (h, e)
 
 -- ---- lists that can be
 

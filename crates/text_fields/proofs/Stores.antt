@@ -10,10 +10,26 @@ use lib.ListN.{length, take, drop, length-append}
 use Rattle.octets.specs.Octets.{pick, put, big_endian_bytes}
 use Rattle.octets.proofs.Laws.{put_not, put_nil, put_behind, length_put, length_big_endian_bytes_law}
 use Rattle.text_fields.specs.Fields.{field_of, text_wire, text_meaning}
-use Rattle.text_fields.specs.Steps.{behind_put, text_bytes, run_bytes}
+use Rattle.text_fields.specs.Steps.{behind_put, first_bad, text_bytes, run_bytes}
 use Rattle.texts.specs.declared.Text.{Text}
-use Rattle.std.specs.Prelude.{None, Some}
+use Rattle.std.specs.Prelude.{Option, None, Some}
 use Rattle.text_fields.specs.declared.TextList.{TextList}
+
+-- ---- the number of a field that can't be, and none
+
+pub first_bad_before_law : (before : Option ℕ) (number : ℕ) (good : Bool) → (before ≡ None → ⊥) → before ≡ first_bad before good number
+unfolding first_bad
+first_bad_before_law None number good h = absurd (h refl)
+first_bad_before_law (Some k) number good h = refl
+
+module _ (before : Option ℕ) (number : ℕ) (good b : Bool) (h : before ≡ None) (e : b ≡ good) where
+  pub first_bad_good_law : b ≡ true → None ≡ first_bad before good number
+  unfolding first_bad
+  first_bad_good_law k = rw (h, ← e, k)
+
+  pub first_bad_bad_law : b ≡ false → Some number ≡ first_bad before good number
+  unfolding first_bad
+  first_bad_bad_law k = rw (h, ← e, k)
 
 -- ---- stores
 
@@ -41,6 +57,10 @@ nothing_put d at = (go (leb (at + 0) (length d)), sym (put_nil d at))
     go false = refl
 
 -- ---- a text, and a list
+
+pub no_text_law : (t : List ℕ) (x : Option Text) → x ≡ None → text_bytes t x ≡ []
+unfolding text_wire text_meaning
+no_text_law t x h = rw h
 
 pub some_text : (t : List ℕ) (x : Text) {p : List ℕ} → p ≡ take x.len (drop x.place t) → text_bytes t (Some x) ≡ field_of p
 unfolding text_wire text_meaning

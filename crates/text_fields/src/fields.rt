@@ -13,6 +13,7 @@ pub struct Run {
 }
 
 // The field at a place that has its two length bytes.
+#[inline(always)]
 fn whole_field(s: &[u8], at: usize) -> Result<Option<Text>, Fault>
     requires { at + 2 ≤ length s.now }
     ensures { result ≡ field_at s.now at }

@@ -23,6 +23,10 @@ module _ (s : List ℕ) (r : Read UeIpAddress) where
   unfolding read found
   no_head h q = stop_head found layout s r (omega arith) h q
 
+-- no rule is broken
+pub free_of : (b k : ℕ) → k ≡ broken_rule b → k ≡ 0 → broken_rule b ≡ 0
+free_of b k e z = sym e ∙ z
+
 -- a payload that has its flags
 module _ (s : List ℕ) (f : length s ≤ 65535) (a : 1 ≤ length s) where
   pub forbidden : (r : Read UeIpAddress) (k : ℕ) → k ≡ broken_rule (get_or s 0 0) → (k ≡ 0 → ⊥) → r ≡ refused (Flags (get_or s 0 0) k) → r ≡ read s

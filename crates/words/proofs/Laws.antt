@@ -10,7 +10,7 @@ use Rattle.std.specs.List.{onto_first, slice_split}
 use Rattle.std.proofs.lemmas.List.Sums.{take_while-cons}
 use lib.Dec.{eqb, leb, ltb}
 use lib.ListN.{length, take, drop, get_or, replicate, length-drop, drop_of_length-le}
-use lib.Seq.{take_all, take-length, drop-cons, append_snoc}
+use lib.Seq.{take_all, take-length, drop-drop, drop-cons, append_snoc}
 use borrow.Author.Tests.{lt-ltb, le-ltb, ltb-true, ltb-false, le-leb, eq-eqb, ne_eqb, eqb-true, eqb-false, not-true, not-false}
 use Rattle.slices.specs.Slices.{slice, index_after, index_of}
 use Rattle.octets.specs.Octets.{pick, field, big_endian, presence, put}
@@ -89,6 +89,44 @@ first_word line p end found most part =
     let k : index_of 0x20 line ≡ end - 0 = found_at 0x20 line 0 end found in
     part ∙ sym (rw (words_start line (omega arith), k))
 
+-- a turn of the search for a word
+module _ (list word p : List ℕ) (at end count n : ℕ) (b : Bool) (found : end ≡ at + index_of 0x20 (slice at (length list) list)) (most : end ≤ length list)
+    (part : p ≡ field list at (end - at)) (test : (b ≡ true → p ≡ word) × (p ≡ word → b ≡ true)) (start : at ≤ length list)
+    (left : count + place_of word (words_of (drop at list)) ≡ n) where
+  k : index_of 0x20 (drop at list) ≡ end - at
+  k = found_at 0x20 list at end found
+
+  first : take (index_of 0x20 (drop at list)) (drop at list) ≡ p
+  first = rw k (sym part)
+
+  pub place_here : b ≡ true → count ≡ n
+  unfolding place_of
+  place_here h =
+      let word-here : words_of (drop at list) ≡ p ∷ drop 1 (words_of (drop at list)) =
+      words_start (drop at list) (omega (arith, k, length-drop at list)) ∙ ap (λ (l : List ℕ). l ∷ drop 1 (words_of (drop at list))) first in
+      let none : place_of word (words_of (drop at list)) ≡ 0 = rw (word-here, ← told p word b test, h) in
+      omega (arith, left, none)
+
+  pub place_last : b ≡ false → end ≡ length list → count + 1 ≡ n
+  unfolding place_of
+  place_last h e =
+      let one : words_of (drop at list) ≡ p ∷ [] =
+      cut_last [] (drop at list) (omega (arith, k, length-drop at list))
+      ∙ ap (λ (l : List ℕ). l ∷ []) (sym (take_all (index_of 0x20 (drop at list)) (drop at list) (omega (arith, k, length-drop at list))) ∙ first) in
+      let none : place_of word (words_of (drop at list)) ≡ 1 = rw (one, ← told p word b test, h) in
+      omega (arith, left, none)
+
+  pub place_more : b ≡ false → (end ≡ length list → ⊥) → count + 1 + place_of word (words_of (drop (end + 1) list)) ≡ n
+  unfolding place_of
+  place_more h e =
+      let place : at + suc (end - at) ≡ end + 1 = omega (arith, k, found) in
+      let rest : drop (suc (index_of 0x20 (drop at list))) (drop at list) ≡ drop (end + 1) list =
+      rw k (drop-drop (suc (end - at)) at list ∙ ap (λ (j : ℕ). drop j list) place) in
+      let two : words_of (drop at list) ≡ p ∷ words_of (drop (end + 1) list) =
+      cut_more [] (drop at list) (omega (arith, k, length-drop at list)) ∙ rw (first, rest) in
+      let more : place_of word (words_of (drop at list)) ≡ suc (place_of word (words_of (drop (end + 1) list))) = rw (two, ← told p word b test, h) in
+      omega (arith, left, more)
+
 -- the words are the parts between spaces
 module _ (w : List ℕ) where
   abbrev onto : List (List ℕ) → List (List ℕ)
@@ -158,6 +196,10 @@ grows n (c ∷ s) = omega (arith, grows (n * 10 + (c - 0x30)) s)
 pub digit_no : (n c : ℕ) → within 0x30 0x39 c ≡ false → with_digit n c ≡ None
 unfolding with_digit presence
 digit_no n c h = rw h
+
+module _ (n c : ℕ) (low : 0x30 ≤ c) (high : c ≤ 0x39) where
+  is_digit : within 0x30 0x39 c ≡ true
+  is_digit = rw (le-leb 0x30 c low, le-leb c 0x39 high)
 
 module _ (n c : ℕ) (is_digit : within 0x30 0x39 c ≡ true) where
   pub digit_over : 2 ^ 64 ≤ n * 10 + (c - 0x30) → with_digit n c ≡ None
