@@ -1,8 +1,9 @@
 // Lines of the standard input, in a buffer that is read into piece by piece, and what answers them.
 #![tactic(auto)]
 
-ghost use Rattle.std.specs.Prelude.{◌≡◌, ◌+◌, ◌<◌, ◌≤◌, ℕ, length, IfOk, IfSome};
-ghost use Rattle.octets.specs.Octets.{field, put};
+ghost use Rattle.std.specs.Prelude.{◌≡◌, ◌+◌, ◌<◌, ◌≤◌, ℕ, length, IfOk, ◌∷◌, [], ◌&&◌, eqb, ltb};
+ghost use Rattle.octets.specs.Octets.{field, pick, put};
+ghost use Rattle.slices.specs.Slices.{slice, index_of};
 
 use std::io;
 use std::io::Read;
@@ -84,7 +85,9 @@ fn answer_input<R: Input + Print, A: AnswersLines>(
 // spares the programs a call for each.
 fn end_last(input: &mut [u8], pending: usize, read: usize) -> usize
     requires { (pending < length input.old) × (pending ≤ read) × (read ≤ length input.old) }
-    ensures value { (read ≤ result) × (result ≤ length input.old) }
+    ensures value { result ≡ pick (ltb 0 pending && eqb read pending) (pending + 1) read }
+    ensures input_after { input.new ≡ pick (ltb 0 pending && eqb read pending) (put input.old pending (10 ∷ [])) input.old }
+    ensures within { (read ≤ result) × (result ≤ length input.old) }
     ensures input_len { length input.new ≡ length input.old }
 {
     if pending == 0 {
@@ -93,7 +96,7 @@ fn end_last(input: &mut [u8], pending: usize, read: usize) -> usize
     if pending < read {
         return read;
     }
-    input[pending] = b'\n';
+    octets::put_byte(input, pending, b'\n');
     pending + 1
 }
 
@@ -129,25 +132,27 @@ fn answer_ended<R: Print, A: AnswersLines>(
     ensures output_len { length output.new ≡ length output.old }
 {
     let mut start = 0;
-    let mut from = searched;
     let mut ready = 0;
-    while let Some(n) = line_end(input, from) {
+    let mut at = line_end(input, searched);
+    while at < input.len() {
         ready = make_room(rt, output, ready, answer.row_len())?;
-        ready = answer_one(answer, &input[start..from + n], output, ready);
-        start = from + n + 1;
-        from = start;
+        ready = answer_one(answer, &input[start..at], output, ready);
+        start = at + 1;
+        at = line_end(input, start);
     }
     Print::write_all(rt, &output[..ready])?;
     Ok(start)
 }
 
-// How far behind a place the next end of a line stands. A call of its own: within a program's loop the compiler makes a slower search of it.
+// Where the first line that ends from a place on has its end, or the input's length. A call of its own: within a program's loop the compiler
+// makes a slower search of it.
 #[inline(never)]
-fn line_end(input: &[u8], from: usize) -> Option<usize>
+fn line_end(input: &[u8], from: usize) -> usize
     requires { from ≤ length input.now }
-    ensures { IfSome result (λ n. from + n < length input.now) }
+    ensures value { result ≡ from + index_of 10 (slice from (length input.now) input.now) }
+    ensures within { (from ≤ result) × (result ≤ length input.now) }
 {
-    input[from..].iter().position(|b| *b == b'\n')
+    slices::find(input, from, input.len(), b'\n')
 }
 
 // Makes room for a row: writes the output where the longest one doesn't fit behind what is ready, and returns what is ready then.

@@ -1,9 +1,10 @@
--- A line starts no further than it is searched from, and what is ready ends within the output. The measure is what is left of the input behind the start of a line: a line that is answered is passed.
+-- The next end of a line isn't before its start, and what is ready ends within the output. The measure is what is left of the input behind
+-- the start of a line.
 use Rattle.std.proofs.Common.{length, ◌-◌, ◌≤◌}
 use Rattle.lines.proofs.answer_ended.Given as goal
 
-abbrev pub invariant-loop-n : goal.invariant-loop-n
-invariant-loop-n g l = (l.start ≤ l.from) × (l.from ≤ length l.input) × (l.ready ≤ length l.output) × (g.A.AnswersLines.row_len ≤ length l.output)
+abbrev pub invariant-loop-at : goal.invariant-loop-at
+invariant-loop-at g l = (l.start ≤ l.at) × (l.at ≤ length l.input) × (l.ready ≤ length l.output) × (g.A.AnswersLines.row_len ≤ length l.output)
 
-abbrev pub decreases-loop-n : goal.decreases-loop-n
-decreases-loop-n g l = length l.input - l.start
+abbrev pub decreases-loop-at : goal.decreases-loop-at
+decreases-loop-at g l = length l.input - l.start
