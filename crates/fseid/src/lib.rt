@@ -115,11 +115,12 @@ impl Fseid {
                 len: 0,
             };
         }
+        // The addresses first: held in registers until the SEID is put, one of them would stand on the stack.
+        octets::put_address(out, Fseid::MIN_LEN, ipv4_address);
+        octets::put_address(out, end4, ipv6_address);
         let flags = octets::flag_byte(self.v6, self.v4, false, false, false, false, false, false);
         octets::put_byte(out, 0, flags);
         octets::put_number(out, 1, 8, self.seid.0);
-        octets::put_address(out, Fseid::MIN_LEN, ipv4_address);
-        octets::put_address(out, end4, ipv6_address);
         Written {
             answer: Answer::Done,
             len: end6,

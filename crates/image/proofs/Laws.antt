@@ -11,7 +11,7 @@ use Rattle.answer.specs.declared.Answer.{Answer}
 use Rattle.answer.specs.declared.Written.{Written}
 use Rattle.answer.specs.Paper.{number_of, written}
 use Rattle.octets.specs.Octets.{if_set, field, over, put}
-use Rattle.octets.proofs.Laws.{put_fits, put_not, put_nil, length_over}
+use Rattle.octets.proofs.Laws.{put_fits, put_not, put_nil, length_over, before}
 use Rattle.std.specs.Prelude.{Option, Some, None, IfSome}
 use Rattle.image.specs.Image.{address_bytes, little_endian_bytes, little_endian, head, head_size, refusal_image, report, read_number, read_image, write_number, write_output, write_report}
 
@@ -54,40 +54,6 @@ part_at f m p at u w g r k q e = rw (q, k) at e
 
 pub part_value_law : {A : Type 0} (f : List ℕ → A) (value : A → ℕ) (m p : List ℕ) (at u w : ℕ) (g : Bool) (r : A) → u ≡ if_set g w → p ≡ take u (drop at m) → r ≡ f p → value r ≡ value (f (field m at (if_set g w)))
 part_value_law f value m p at u w g r k q e = ap value (part_at f m p at u w g r k q e)
-
--- ---- bytes put before those that stand already are one put of the joined bytes
-over_before : (d : List ℕ) (at m : ℕ) (xs ys : List ℕ) → m ≡ at + length xs → m + length ys ≤ length d → over (over d m ys) at xs ≡ over d at (xs ++ ys)
-unfolding over
-over_before d at m xs ys k h =
-    ap₂ (λ (u v : List ℕ). u ++ (xs ++ v)) front back
-    ∙ ap (λ (l : List ℕ). take at d ++ l) (sym (append_assoc xs ys (drop (m + length ys) d)) ∙ ap (λ (n : ℕ). (xs ++ ys) ++ drop n d) count)
-  where
-    rest : List ℕ
-    rest = ys ++ drop (m + length ys) d
-
-    count : m + length ys ≡ at + length (xs ++ ys)
-    count = omega (arith, length-append xs ys)
-
-    split : take m d ≡ take at d ++ take (length xs) (drop at d)
-    split = ap (λ (n : ℕ). take n d) k ∙ take-add at (length xs) d
-
-    front : take at (take m d ++ rest) ≡ take at d
-    front =
-        ap (λ (l : List ℕ). take at l) (ap (λ (l : List ℕ). l ++ rest) split ∙ append_assoc (take at d) (take (length xs) (drop at d)) rest)
-        ∙ take_at (take at d) (take (length xs) (drop at d) ++ rest) at (length-take-le at d (omega arith))
-
-    back : drop (at + length xs) (take m d ++ rest) ≡ rest
-    back = ap (λ (n : ℕ). drop n (take m d ++ rest)) (sym k) ∙ drop_at (take m d) rest m (length-take-le m d (omega arith))
-
-pub before : (d d' e : List ℕ) (at m : ℕ) (xs ys : List ℕ) → d' ≡ put d m ys → e ≡ put d' at xs → m ≡ at + length xs → m + length ys ≤ length d → e ≡ put d at (xs ++ ys)
-before d d' e at m xs ys q p k h =
-    let stored : d' ≡ over d m ys = q ∙ put_fits d m ys h in
-    let l : length d' ≡ length d = ap length stored ∙ length_over d m ys h in
-    p
-    ∙ put_fits d' at xs (omega arith)
-    ∙ ap (λ (l : List ℕ). over l at xs) stored
-    ∙ over_before d at m xs ys k h
-    ∙ sym (put_fits d at (xs ++ ys) (omega (arith, length-append xs ys)))
 
 -- ---- how long the parts are
 pub length_address_bytes : (n : ℕ) (a : Option (List ℕ)) → IfSome a (λ bs. length bs ≡ n) → length (address_bytes n a) ≡ n

@@ -1,16 +1,17 @@
 -- What a reader that goes by a layout answers, and what a writer answers and stores, case by case, for every kind. No contract cites this file.
 use Prim.Native.Nat.{ℕ, zero, suc, ◌+◌, ◌≤◌, ◌<◌}
 use native.Mathlib.Omega.{arith}
-use mathlib.Core.Path.{◌≡◌, refl, sym}
+use mathlib.Core.Path.{◌≡◌, refl, sym, ap, ◌∙◌}
 use mathlib.Core.Bool.{Bool}
-use mathlib.Core.List.{List, ◌∷◌}
+use mathlib.Core.List.{List, ◌∷◌, ◌++◌}
 use lib.ListN.{length, get_or, take, drop}
+use lib.Seq.{length-take-le}
 use borrow.Author.Tests.{le-leb, lt-leb}
 use Rattle.answer.specs.declared.Answer.{Answer}
 use Rattle.answer.specs.declared.Answer.TheVariants.{Done, Short, Flags, NodeType, NotUtf8, InputTooLong, BadText, OutputTooLong, NoRoom, Unbuilt, NoSequenceNumber, ZeroLength}
 use Rattle.answer.specs.Paper.{number_of, written}
 use Rattle.octets.specs.Octets.{bit, if_set, put}
-use Rattle.octets.proofs.Laws.{put_not, Puts, put_row}
+use Rattle.octets.proofs.Laws.{put_not, put_front, Puts, put_row}
 use Rattle.kind.specs.Layout.{Wanted, wanted, Layout, Outcome, accepts, refuses, unless_broken, outcome}
 use Rattle.kind.proofs.Laws.{total, end, too_long, too_short, headed, whole}
 use Rattle.kind.proofs.Rows.{stops}
@@ -73,3 +74,9 @@ module _ (d bytes : List ℕ) (n : ℕ) (long : length bytes ≡ n) where
   -- where they fit and were put piece by piece, done
   pub all_put : (e : List ℕ) → n ≤ length d → Puts d 0 bytes e → (record { answer = Done; len = n } ≡ written (length bytes) (length d)) × (e ≡ put d 0 bytes)
   all_put e h p = (rw (long, le-leb n (length d) h), put_row p (omega arith))
+
+  -- the same, put into the front of the output, which they fill
+  pub all_put_front : (e : List ℕ) → n ≤ length d → Puts (take n d) 0 bytes e → (record { answer = Done; len = n } ≡ written (length bytes) (length d)) × (e ++ drop n d ≡ put d 0 bytes)
+  all_put_front e h p =
+      let l : length (take n d) ≡ n = length-take-le n d h in
+      (rw (long, le-leb n (length d) h), ap (λ (x : List ℕ). x ++ drop n d) (put_row p (omega (arith, l))) ∙ put_front d bytes n long h)

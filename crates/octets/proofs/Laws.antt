@@ -438,6 +438,40 @@ put_put d at m xs ys e h =
 pub put_behind : (d e : List ℕ) (at m : ℕ) (xs ys : List ℕ) → e ≡ put d at xs → m ≡ at + length xs → m + length ys ≤ length d → put e m ys ≡ put d at (xs ++ ys)
 put_behind d e at m xs ys q p h = rw q (put_put d at m xs ys p h)
 
+-- bytes put before those that stand already are one put of the joined bytes
+over_before : (d : List ℕ) (at m : ℕ) (xs ys : List ℕ) → m ≡ at + length xs → m + length ys ≤ length d → over (over d m ys) at xs ≡ over d at (xs ++ ys)
+unfolding over
+over_before d at m xs ys k h =
+    ap₂ (λ (u v : List ℕ). u ++ (xs ++ v)) front back
+    ∙ ap (λ (l : List ℕ). take at d ++ l) (sym (append_assoc xs ys (drop (m + length ys) d)) ∙ ap (λ (n : ℕ). (xs ++ ys) ++ drop n d) count)
+  where
+    rest : List ℕ
+    rest = ys ++ drop (m + length ys) d
+
+    count : m + length ys ≡ at + length (xs ++ ys)
+    count = omega (arith, length-append xs ys)
+
+    split : take m d ≡ take at d ++ take (length xs) (drop at d)
+    split = ap (λ (n : ℕ). take n d) k ∙ take-add at (length xs) d
+
+    front : take at (take m d ++ rest) ≡ take at d
+    front =
+        ap (λ (l : List ℕ). take at l) (ap (λ (l : List ℕ). l ++ rest) split ∙ append_assoc (take at d) (take (length xs) (drop at d)) rest)
+        ∙ take_at (take at d) (take (length xs) (drop at d) ++ rest) at (length-take-le at d (omega arith))
+
+    back : drop (at + length xs) (take m d ++ rest) ≡ rest
+    back = ap (λ (n : ℕ). drop n (take m d ++ rest)) (sym k) ∙ drop_at (take m d) rest m (length-take-le m d (omega arith))
+
+pub before : (d d' e : List ℕ) (at m : ℕ) (xs ys : List ℕ) → d' ≡ put d m ys → e ≡ put d' at xs → m ≡ at + length xs → m + length ys ≤ length d → e ≡ put d at (xs ++ ys)
+before d d' e at m xs ys q p k h =
+    let stored : d' ≡ over d m ys = q ∙ put_fits d m ys h in
+    let l : length d' ≡ length d = ap length stored ∙ length_over d m ys h in
+    p
+    ∙ put_fits d' at xs (omega arith)
+    ∙ ap (λ (l : List ℕ). over l at xs) stored
+    ∙ over_before d at m xs ys k h
+    ∙ sym (put_fits d at (xs ++ ys) (omega (arith, length-append xs ys)))
+
 -- Bytes put one behind another from a place on: `Puts d at bs e` leads from the output d to e, and bs are all the bytes, joined.
 pub data Puts : List ℕ → ℕ → List ℕ → List ℕ → Type 0 where
   ends : {d e bs : List ℕ} {at : ℕ} → e ≡ put d at bs → Puts d at bs e
@@ -450,6 +484,20 @@ put_row {d} {at = at} (then {d' = d'} {ys = ys} xs m q p r) h =
     let count = length-append xs ys in
     let l : length d' ≡ length d = ap length (q ∙ put_fits d at xs (omega arith)) ∙ length_over d at xs (omega arith) in
     put_row r (omega arith) ∙ put_behind d d' at m xs ys q p (omega arith)
+
+-- bytes that are as many as the front of an output, put there
+over_front : (d bytes : List ℕ) → over d 0 bytes ≡ bytes ++ drop (length bytes) d
+unfolding over
+over_front d bytes = ap (λ (m : ℕ). bytes ++ drop m d) (omega arith)
+
+pub put_front : (d bytes : List ℕ) (n : ℕ) → length bytes ≡ n → n ≤ length d → put (take n d) 0 bytes ++ drop n d ≡ put d 0 bytes
+put_front d bytes n long h =
+    let l : length (take n d) ≡ n = length-take-le n d h in
+    let rest : drop (length bytes) (take n d) ≡ [] = drop_of_length-le (take n d) {i = length bytes} (omega (arith, l)) in
+    let front : put (take n d) 0 bytes ≡ bytes = put_fits (take n d) 0 bytes (omega (arith, l)) ∙ over_front (take n d) bytes ∙ ap (λ (x : List ℕ). bytes ++ x) rest ∙ append-nil bytes in
+    ap (λ (x : List ℕ). x ++ drop n d) front
+    ∙ ap (λ (m : ℕ). bytes ++ drop m d) (sym long)
+    ∙ sym (put_fits d 0 bytes (omega arith) ∙ over_front d bytes)
 
 -- a store right behind a run is one byte more of the run
 pub over_set : (d : List ℕ) (at n b : ℕ) (bs : List ℕ) → length bs ≡ n → at + n < length d → over (set d (at + n) b) at bs ≡ over d at (bs ++ (b ∷ []))

@@ -210,6 +210,9 @@ impl UeIpAddress {
                 len: 0,
             };
         }
+        // Cut to what is written, with the last byte put at its end: that leaves registers enough to hold the addresses, so that none
+        // stands on the stack.
+        let out = &mut out[..end];
         let flags = octets::flag_byte(
             self.v6,
             self.v4,
@@ -224,7 +227,7 @@ impl UeIpAddress {
         octets::put_address(out, 1, ipv4_address);
         octets::put_address(out, end4, ipv6_address);
         octets::put_number_if(out, end6, 1, bits.map(u64::from));
-        octets::put_number_if(out, end_bits, 1, prefix.map(u64::from));
+        octets::put_number_if(out, end - 1, 1, prefix.map(u64::from));
         Written {
             answer: Answer::Done,
             len: end,

@@ -2,6 +2,7 @@
 use Rattle.std.proofs.Common.{ℕ, List, leb, ◌<◌, ◌^◌}
 use Rattle.std.specs.Prelude.{Option, None, Some, unwrap_or, IfSome}
 use native.Mathlib.Nat.{one-le-pow}
+use native.Mathlib.Omega.{arith}
 use lib.Dec.{lit<}
 use mathlib.Core.Path.{ap, ◌∙◌}
 use Rattle.octets.specs.Octets.{pick, number_of}
@@ -18,4 +19,4 @@ returns-clause-upper_bound g c = rw c.unwrap_or.ensures (below g.row.W _ c.numbe
 pub returns-clause-value : goal.returns-clause-value
 returns-clause-value g c =
     c.unwrap_or.ensures
-    ∙ ap (λ o. unwrap_or o 0) (part_at (λ (bs : List ℕ). pick (leb g.row.W 8) (number_of g.row.W bs) None) c.args.bytes.now _ c.args.at _ c.args.width c.args.given _ c.if_set.ensures.value c.part.ensures c.number_of.ensures.value)
+    ∙ ap (λ o. unwrap_or o 0) (part_at (λ (bs : List ℕ). pick (leb g.row.W 8) (number_of g.row.W bs) None) c.args.bytes.now _ c.args.at _ c.args.width c.args.given _ (omega arith) c.part.ensures c.number_of.ensures.value)

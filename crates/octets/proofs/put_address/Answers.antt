@@ -34,16 +34,17 @@ byte_put d e at i bs h room q =
 byte_at : (d e : List ℕ) (at i p n : ℕ) (bs : List ℕ) → p ≡ at + i → n ≡ i + 1 → i < length bs → at + length bs ≤ length d → e ≡ put d at (take i bs) → set e p (get_or bs i 0) ≡ put d at (take n bs)
 byte_at d e at i p n bs s m h room q = rw s (rw m (byte_put d e at i bs h room q))
 
--- four bytes more
-four_put : (d e : List ℕ) (at k : ℕ) (bs : List ℕ) → 4 * k + 4 ≤ length bs → at + length bs ≤ length d → e ≡ put d at (take (4 * k) bs)
-    → set (set (set (set e (at + 4 * k) (get_or bs (4 * k) 0)) (at + 4 * k + 1) (get_or bs (4 * k + 1) 0)) (at + 4 * k + 2) (get_or bs (4 * k + 2) 0)) (at + 4 * k + 3) (get_or bs (4 * k + 3) 0)
+-- four bytes more, each from its place, however that is said
+four_put : (d e : List ℕ) (at k s0 s1 s2 s3 : ℕ) (bs : List ℕ) → s0 ≡ 4 * k → s1 ≡ 4 * k + 1 → s2 ≡ 4 * k + 2 → s3 ≡ 4 * k + 3
+    → 4 * k + 4 ≤ length bs → at + length bs ≤ length d → e ≡ put d at (take (4 * k) bs)
+    → set (set (set (set e (at + 4 * k) (get_or bs s0 0)) (at + 4 * k + 1) (get_or bs s1 0)) (at + 4 * k + 2) (get_or bs s2 0)) (at + 4 * k + 3) (get_or bs s3 0)
     ≡ put d at (take (4 * (k + 1)) bs)
-four_put d e at k bs h room q =
+four_put d e at k s0 s1 s2 s3 bs q0 q1 q2 q3 h room q =
     let i = 4 * k in
     let one = byte_at d e at i (at + i) (i + 1) bs refl refl (omega arith) room q in
     let two = byte_at d _ at (i + 1) (at + i + 1) (i + 2) bs (omega arith) (omega arith) (omega arith) room one in
     let three = byte_at d _ at (i + 2) (at + i + 2) (i + 3) bs (omega arith) (omega arith) (omega arith) room two in
-    byte_at d _ at (i + 3) (at + i + 3) (4 * (k + 1)) bs (omega arith) (omega arith) (omega arith) room three
+    rw q0 (rw q1 (rw q2 (rw q3 (byte_at d _ at (i + 3) (at + i + 3) (4 * (k + 1)) bs (omega arith) (omega arith) (omega arith) room three))))
 
 pub loop-i-init : goal.loop-i-init
 loop-i-init g c = sym (put_nil _ _)
@@ -61,7 +62,8 @@ pub loop-k-preserved : goal.loop-k-preserved
 loop-k-preserved g c =
     let long : length c.in-Some.octets ≡ g.row.N = search rules in
     let room : c.args.at + g.row.N ≤ length c.args.out.now = leb-true _ _ (sym c.has_room.ensures ∙ c.if-not-has_room.false) in
-    four_put _ _ _ _ _ (omega (arith, long, c.loop-k-test.true)) (omega (arith, long)) c.loop-k.invariant
+    four_put _ _ _ _ _ _ _ _ _ (omega arith) (omega arith) (omega arith) (omega arith) (omega (arith, long, c.loop-k-test.true)) (omega (arith, long))
+    c.loop-k.invariant
 
 pub returns-then-this-ne0 : goal.returns-then-this-ne0
 unfolding bytes_if

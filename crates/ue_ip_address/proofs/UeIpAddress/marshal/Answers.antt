@@ -1,15 +1,15 @@
 -- `ue_ip_address::UeIpAddress::marshal` meets its contract: five puts, one behind the other, are one put of the written form.
-use Prim.Native.Nat.{ℕ, ◌+◌}
+use Prim.Native.Nat.{ℕ, ◌+◌, ◌-◌}
 use native.Mathlib.Omega.{arith}
-use mathlib.Core.Path.{◌≡◌, refl, sym, ◌∙◌}
+use mathlib.Core.Path.{◌≡◌, refl, sym, ap, ◌∙◌}
 use mathlib.Core.Bool.{Bool, false}
-use Rattle.std.specs.Prelude.{IfSome, is_some}
+use Rattle.std.specs.Prelude.{Option, Some, None, IfSome, is_some}
 use mathlib.Core.List.{List, [], ◌∷◌, ◌++◌}
 use lib.ListN.{length, length-append}
 use borrow.Author.Rules.{rules}
 use Rattle.octets.specs.Octets.{if_set, flag_byte, bytes_if, number_if, put}
-use Rattle.octets.proofs.Laws.{flags_padded, length_bytes_if, length_number_if, Puts, ends, then}
-use Rattle.kind.proofs.Cases.{no_room, all_put}
+use Rattle.octets.proofs.Laws.{flags_padded, length_big_endian_bytes_law, length_bytes_if, length_number_if, put_nil, Puts, ends, then}
+use Rattle.kind.proofs.Cases.{no_room, all_put_front}
 use Rattle.ue_ip_address.specs.declared.UeIpAddress.{UeIpAddress}
 use Rattle.ue_ip_address.specs.UeIpAddress.{meaning, wire}
 use Rattle.ue_ip_address.proofs.UeIpAddress.marshal.Goals as goal
@@ -37,6 +37,12 @@ widths r l4 l6 s4 e4 s6 e6 sb eb sp ep =
       prefix = length_number_if 1 r.ipv6_prefix_length ∙ sym (rw sp at ep);
     }
 
+-- a byte at the end, where there is one, stands behind what is before it
+last_byte : (d : List ℕ) (at end : ℕ) (o : Option ℕ) → end ≡ at + length (number_if 1 o) → put d (end - 1) (number_if 1 o) ≡ put d at (number_if 1 o)
+unfolding number_if
+last_byte d at end None e = put_nil d (end - 1) ∙ sym (put_nil d at)
+last_byte d at end (Some x) e = ap (λ (n : ℕ). put d n (number_if 1 (Some x))) (omega (arith, length_big_endian_bytes_law 1 x))
+
 module _ (r : UeIpAddress) (u4 u6 ub up : ℕ) (w : Widths r u4 u6 ub up) where
   -- how long the written form is, and that it is put piece by piece
   long : length (wire (meaning r)) ≡ 1 + u4 + u6 + ub + up
@@ -52,7 +58,7 @@ module _ (r : UeIpAddress) (u4 u6 ub up : ℕ) (w : Widths r u4 u6 ub up) where
       → d2 ≡ put d1 1 (bytes_if r.ipv4_address)
       → d3 ≡ put d2 (1 + u4) (bytes_if r.ipv6_address)
       → d4 ≡ put d3 (1 + u4 + u6) (number_if 1 r.ipv6_prefix_delegation_bits)
-      → d5 ≡ put d4 (1 + u4 + u6 + ub) (number_if 1 r.ipv6_prefix_length)
+      → d5 ≡ put d4 (1 + u4 + u6 + ub + up - 1) (number_if 1 r.ipv6_prefix_length)
       → Puts d 0 (wire (meaning r)) d5
   unfolding wire meaning
   row f d d1 d2 d3 d4 d5 g q1 q2 q3 q4 q5 =
@@ -60,7 +66,7 @@ module _ (r : UeIpAddress) (u4 u6 ub up : ℕ) (w : Widths r u4 u6 ub up) where
       (then _ (1 + u4) q2 (omega (arith, w.ipv4))
       (then _ (1 + u4 + u6) q3 (omega (arith, w.ipv6))
       (then _ (1 + u4 + u6 + ub) q4 (omega (arith, w.bits))
-      (ends q5))))
+      (ends (q5 ∙ last_byte d4 (1 + u4 + u6 + ub) _ r.ipv6_prefix_length (omega (arith, w.prefix)))))))
 
 pub returns-then-out-end : goal.returns-then-out-end
 returns-then-out-end c =
@@ -77,6 +83,6 @@ returns c =
     let w = widths c.args.self l4 l6 c.is_some.ensures c.if_set-end4.ensures.value c.is_some-2.ensures c.if_set.ensures.value c.is_some-3.ensures c.if_set-2.ensures.value c.is_some-4.ensures c.if_set-3.ensures.value in
     let bits : c.map.result ≡ c.args.self.ipv6_prefix_delegation_bits = search rules in
     let prefix : c.map-2.result ≡ c.args.self.ipv6_prefix_length = search rules in
-    let both = all_put _ _ _ (long r _ _ _ _ w) _ c.if-out-end.false
+    let both = all_put_front _ _ _ (long r _ _ _ _ w) _ c.if-out-end.false
     (row r _ _ _ _ w _ _ _ _ _ _ _ c.flag_byte-flags.ensures c.put_byte.ensures c.put_address.ensures c.put_address-2.ensures
     (rw bits at c.put_number_if.ensures) (rw prefix at c.put_number_if-2.ensures)) in record { value = both.0; out_after = both.1 }
