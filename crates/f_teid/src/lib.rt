@@ -182,12 +182,11 @@ fn write_concrete(r: Fteid, out: &mut [u8]) -> Written
             len: 0,
         };
     }
-    // The addresses first, as in an F-SEID.
-    octets::put_address(out, TEID_END, ipv4_address);
-    octets::put_address(out, end4, ipv6_address);
     let flags = octets::flag_byte(r.v4, r.v6, false, false, false, false, false, false);
     octets::put_byte(out, 0, flags);
     octets::put_number(out, 1, 4, r.teid.0 as u64);
+    octets::put_address(out, TEID_END, ipv4_address);
+    octets::put_address(out, end4, ipv6_address);
     Written {
         answer: Answer::Done,
         len: end6,

@@ -11,7 +11,8 @@ use Rattle.answer.specs.declared.Answer.{Answer}
 use Rattle.answer.specs.declared.Written.{Written}
 use Rattle.answer.specs.Paper.{number_of, written}
 use Rattle.octets.specs.Octets.{if_set, field, over, put}
-use Rattle.octets.proofs.Laws.{put_fits, put_not, put_nil, length_over, before}
+use Rattle.octets.proofs.Laws.{put_fits, put_not, put_nil, length_over}
+pub use Rattle.octets.proofs.Laws.{before}
 use Rattle.std.specs.Prelude.{Option, Some, None, IfSome}
 use Rattle.image.specs.Image.{address_bytes, little_endian_bytes, little_endian, head, head_size, refusal_image, report, read_number, read_image, write_number, write_output, write_report}
 

@@ -20,15 +20,27 @@ module _ (first w x : ℕ) (a4 a6 : Option (List ℕ)) where
     form_length =
         simp (length-append, length_big_endian_bytes_law, length_bytes_if 4 a4 l4, length_bytes_if 16 a6 l6) (omega arith)
 
-    -- the addresses first, then what stands before them
     pub form_row : (d d1 d2 d3 d4 : List ℕ)
+        → d1 ≡ put d 0 (first ∷ [])
+        → d2 ≡ put d1 1 (big_endian_bytes w x)
+        → d3 ≡ put d2 (1 + w) (bytes_if a4)
+        → d4 ≡ put d3 (1 + w + u4) (bytes_if a6)
+        → Puts d 0 endpoint_wire d4
+    form_row d d1 d2 d3 d4 q1 q2 q3 q4 =
+        then (first ∷ []) 1 q1 refl
+        (then _ (1 + w) q2 (omega (arith, length_big_endian_bytes_law w x))
+        (then _ (1 + w + u4) q3 (omega (arith, length_bytes_if 4 a4 l4))
+        (ends q4)))
+
+    -- the same, the addresses put first, and then what stands before them
+    pub form_row_behind : (d d1 d2 d3 d4 : List ℕ)
         → 1 + w + u4 + u6 ≤ length d
         → d1 ≡ put d (1 + w) (bytes_if a4)
         → d2 ≡ put d1 (1 + w + u4) (bytes_if a6)
         → d3 ≡ put d2 0 (first ∷ [])
         → d4 ≡ put d3 1 (big_endian_bytes w x)
         → Puts d 0 endpoint_wire d4
-    form_row d d1 d2 d3 d4 room q1 q2 q3 q4 =
+    form_row_behind d d1 d2 d3 d4 room q1 q2 q3 q4 =
         let v4 = length_bytes_if 4 a4 l4 in
         let v6 = length_bytes_if 16 a6 l6 in
         let vx = length_big_endian_bytes_law w x in

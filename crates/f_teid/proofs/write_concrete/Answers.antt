@@ -1,5 +1,5 @@
 -- `f_teid::write_concrete` meets its contract: four puts, one behind the other, are one put of the written form.
-use Prim.Native.Nat.{ℕ, ◌+◌, ◌≤◌}
+use Prim.Native.Nat.{ℕ, ◌+◌}
 use mathlib.Core.Path.{◌≡◌, ap, ◌∙◌}
 use mathlib.Core.Bool.{false}
 use mathlib.Core.List.{List, [], ◌∷◌}
@@ -28,15 +28,14 @@ module _ (r : Fteid) (u4 u6 : ℕ) (ch : r.ch ≡ false) (e4 : u4 ≡ if_set (is
   long = ap length formed ∙ form_length (first r) 4 r.teid.0 r.ipv4_address r.ipv6_address u4 u6 e4 e6 l4 l6
 
   row : (f : ℕ) (d d1 d2 d3 d4 : List ℕ) → f ≡ flag_byte (r.v4 ∷ r.v6 ∷ false ∷ false ∷ false ∷ false ∷ false ∷ false ∷ [])
-      → 5 + u4 + u6 ≤ length d
-      → d1 ≡ put d 5 (bytes_if r.ipv4_address)
-      → d2 ≡ put d1 (5 + u4) (bytes_if r.ipv6_address)
-      → d3 ≡ put d2 0 (f ∷ [])
-      → d4 ≡ put d3 1 (big_endian_bytes 4 r.teid.0)
+      → d1 ≡ put d 0 (f ∷ [])
+      → d2 ≡ put d1 1 (big_endian_bytes 4 r.teid.0)
+      → d3 ≡ put d2 5 (bytes_if r.ipv4_address)
+      → d4 ≡ put d3 (5 + u4) (bytes_if r.ipv6_address)
       → Puts d 0 (wire (meaning r)) d4
-  row f d d1 d2 d3 d4 g room q1 q2 q3 q4 =
+  row f d d1 d2 d3 d4 g q1 q2 q3 q4 =
       rw formed
-      (form_row (first r) 4 r.teid.0 r.ipv4_address r.ipv6_address u4 u6 e4 e6 l4 l6 d d1 d2 d3 d4 room q1 q2 (rw (g ∙ flags_padded (r.v4 ∷ r.v6 ∷ false ∷ false ∷ []) 4) at q3) q4)
+      (form_row (first r) 4 r.teid.0 r.ipv4_address r.ipv6_address u4 u6 e4 e6 l4 l6 d d1 d2 d3 d4 (rw (g ∙ flags_padded (r.v4 ∷ r.v6 ∷ false ∷ false ∷ []) 4) at q1) q2 q3 q4)
 
 pub returns-then-out-end6 : goal.returns-then-out-end6
 returns-then-out-end6 c =
@@ -56,5 +55,5 @@ returns c =
     let l4 : IfSome c.args.r.ipv4_address (λ bs. length bs ≡ 4) = search rules in
     let l6 : IfSome c.args.r.ipv6_address (λ bs. length bs ≡ 16) = search rules in
     let both = all_put _ _ _ (long r _ _ ch e4 e6 l4 l6) _ c.if-out-end6.false
-    (row r _ _ ch e4 e6 l4 l6 _ _ _ _ _ _ c.flag_byte-flags.ensures c.if-out-end6.false c.put_address.ensures c.put_address-2.ensures c.put_byte.ensures c.put_number.ensures) in
+    (row r _ _ ch e4 e6 l4 l6 _ _ _ _ _ _ c.flag_byte-flags.ensures c.put_byte.ensures c.put_number.ensures c.put_address.ensures c.put_address-2.ensures) in
     record { value = both.0; out_after = both.1 }

@@ -7,9 +7,9 @@ use Rattle.answer.specs.declared.Answer.{Answer}
 use Rattle.answer.specs.declared.Values.{Values}
 use Rattle.answer.specs.Paper.{number_of, values_of}
 use Rattle.octets.specs.Octets.{put}
-use Rattle.octets.proofs.Laws.{put_not, before}
+use Rattle.octets.proofs.Laws.{put_not}
 use Rattle.image.specs.Image.{little_endian_bytes, head}
-use Rattle.image.proofs.Laws.{length_little_endian_bytes_law, length_head}
+use Rattle.image.proofs.Laws.{length_little_endian_bytes_law, length_head, before}
 use Rattle.image.proofs.put_head.Goals as goal
 
 read_back : (d : List ℕ) (a : Answer) (n : ℕ) → length d < 40 → d ≡ put d 0 (head a n)

@@ -1,4 +1,4 @@
--- `fseid::Fseid::marshal` meets its contract: four puts, one behind the other, are one put of the written form.
+-- `fseid::Fseid::marshal` meets its contract: four puts, the addresses first, are one put of the written form.
 use Prim.Native.Nat.{ℕ, ◌+◌, ◌≤◌}
 use mathlib.Core.Path.{◌≡◌, ◌∙◌}
 use mathlib.Core.Bool.{false}
@@ -9,7 +9,7 @@ use borrow.Author.Rules.{rules}
 use Rattle.octets.specs.Octets.{if_set, flag_byte, big_endian_bytes, bytes_if, put}
 use Rattle.octets.proofs.Laws.{flags_padded, Puts}
 use Rattle.kind.proofs.Cases.{no_room, all_put}
-use Rattle.kind.proofs.Endpoint.{form_length, form_row}
+use Rattle.kind.proofs.Endpoint.{form_length, form_row_behind}
 use Rattle.fseid.specs.declared.Fseid.{Fseid}
 use Rattle.fseid.specs.Fseid.{meaning, wire}
 use Rattle.fseid.proofs.Fseid.marshal.Goals as goal
@@ -28,7 +28,7 @@ module _ (r : Fseid) (u4 u6 : ℕ) (e4 : u4 ≡ if_set (is_some r.ipv4_address) 
       → Puts d 0 (wire (meaning r)) d4
   unfolding wire meaning
   row f d d1 d2 d3 d4 g room q1 q2 q3 q4 =
-      form_row (flag_byte (r.v6 ∷ r.v4 ∷ [])) 8 r.seid.0 r.ipv4_address r.ipv6_address u4 u6 e4 e6 l4 l6 d d1 d2 d3 d4 room q1 q2 (rw (g ∙ flags_padded (r.v6 ∷ r.v4 ∷ []) 6) at q3) q4
+      form_row_behind (flag_byte (r.v6 ∷ r.v4 ∷ [])) 8 r.seid.0 r.ipv4_address r.ipv6_address u4 u6 e4 e6 l4 l6 d d1 d2 d3 d4 room q1 q2 (rw (g ∙ flags_padded (r.v6 ∷ r.v4 ∷ []) 6) at q3) q4
 
 pub returns-then-out-end6 : goal.returns-then-out-end6
 returns-then-out-end6 c =
