@@ -5,7 +5,7 @@ use native.Mathlib.Nat.{one-le-pow}
 use native.Mathlib.Omega.{arith}
 use lib.Dec.{lit<}
 use mathlib.Core.Path.{ap, ◌∙◌}
-use Rattle.octets.specs.Octets.{pick, number_of}
+use Rattle.octets.specs.Octets.{pick, if_set, number_of}
 use Rattle.image.proofs.Laws.{part_at}
 use Rattle.image.proofs.number_or_zero.Goals as goal
 
@@ -17,6 +17,7 @@ pub returns-clause-upper_bound : goal.returns-clause-upper_bound
 returns-clause-upper_bound g c = rw c.unwrap_or.ensures (below g.row.W _ c.number_of.ensures.upper_bound)
 
 pub returns-clause-value : goal.returns-clause-value
+unfolding if_set
 returns-clause-value g c =
     c.unwrap_or.ensures
     ∙ ap (λ o. unwrap_or o 0) (part_at (λ (bs : List ℕ). pick (leb g.row.W 8) (number_of g.row.W bs) None) c.args.bytes.now _ c.args.at _ c.args.width c.args.given _ (omega arith) c.part.ensures c.number_of.ensures.value)
