@@ -1,17 +1,16 @@
 -- Laws of images. No contract cites this file.
 use Prim.Native.Nat.{ℕ, zero, suc, ◌+◌, ◌-◌, ◌*◌, ◌/◌, ◌≤◌, ◌<◌}
 use native.Mathlib.Omega.{arith}
-use mathlib.Core.Path.{◌≡◌, refl, sym, ap, ap₂, ◌∙◌}
+use mathlib.Core.Path.{◌≡◌, refl, sym, ap, ◌∙◌}
 use mathlib.Core.Bool.{Bool, true, false, not}
-use mathlib.Core.List.{List, [], ◌∷◌, ◌++◌, append_assoc, append-nil}
+use mathlib.Core.List.{List, [], ◌∷◌, ◌++◌, append-nil}
 use lib.ListN.{length, take, drop, get_or, replicate, length-append, length-replicate}
-use lib.Seq.{take_at, drop_at, take-add, length-take-le}
 use borrow.Author.Tests.{le-leb, lt-leb, not-true, not-false}
 use Rattle.answer.specs.declared.Answer.{Answer}
 use Rattle.answer.specs.declared.Written.{Written}
 use Rattle.answer.specs.Paper.{number_of, written}
-use Rattle.octets.specs.Octets.{if_set, field, over, put}
-use Rattle.octets.proofs.Laws.{put_fits, put_not, put_nil, length_over}
+use Rattle.octets.specs.Octets.{if_set, field, put}
+use Rattle.octets.proofs.Laws.{put_not, put_nil}
 pub use Rattle.octets.proofs.Laws.{before}
 use Rattle.std.specs.Prelude.{Option, Some, None, IfSome}
 use Rattle.image.specs.Image.{address_bytes, little_endian_bytes, little_endian, head, head_size, refusal_image, report, read_number, read_image, write_number, write_output, write_report}
