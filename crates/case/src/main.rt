@@ -47,5 +47,5 @@ fn main(rt: HostRuntime) {
     prove!(LONGEST <= 8195);
     prove!(LONGEST < input.len());
     prove!(ROW <= output.len());
-    let _ = lines::answer_all(&rt, &mut input, &mut output, LONGEST, &mut Rows);
+    let _ = lines::answer_rows(&rt, &mut input, &mut output, LONGEST, &mut Rows);
 }

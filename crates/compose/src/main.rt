@@ -51,5 +51,5 @@ fn main(rt: HostRuntime) {
     prove!(longest < input.len());
     prove!(ROW <= output.len());
     let mut rows = Rows { texts: &mut texts };
-    let _ = lines::answer_all(&rt, &mut input, &mut output, longest, &mut rows);
+    let _ = lines::answer_rows(&rt, &mut input, &mut output, longest, &mut rows);
 }

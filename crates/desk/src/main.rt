@@ -44,5 +44,5 @@ fn main(rt: HostRuntime) {
         payload: &mut payload,
         table: &mut table,
     };
-    let _ = lines::answer_all(&rt, &mut input, &mut output, longest, &mut rows);
+    let _ = lines::answer_rows(&rt, &mut input, &mut output, longest, &mut rows);
 }

@@ -5,6 +5,8 @@ ghost use Rattle.std.specs.Prelude.{◌≡◌, ◌+◌, ◌<◌, ◌≤◌, ℕ,
 ghost use Rattle.octets.specs.Octets.{field, pick, put};
 ghost use Rattle.slices.specs.Slices.{slice, index_of};
 
+mod by_closure;
+
 use std::io;
 use std::io::Read;
 
@@ -27,7 +29,7 @@ pub trait AnswersLines {
     fn row_len(&self) -> usize
         ensures { result ≡ row_len };
 
-    // Puts what answers a line behind what is ready of an output, and returns where it ends. `answer_all` calls it, where there is room.
+    // Puts what answers a line behind what is ready of an output, and returns where it ends. `answer_rows` calls it, where there is room.
     fn answer(&mut self, line: &[u8], output: &mut [u8], ready: usize) -> usize
         requires { ready + row_len ≤ length output.old };
 }
@@ -36,7 +38,7 @@ pub trait AnswersLines {
 // input ends a last line. Of a line that no read ends, no more than `longest` bytes count. What can't be read or written is the end. An
 // output shorter than a row is refused, and so is an input with no byte to read into beside what counts. Input and output are lent memory
 // with what stands in it beside them: constant memory allows no `Vec`.
-pub fn answer_all<R: Input + Print, A: AnswersLines>(
+pub fn answer_rows<R: Input + Print, A: AnswersLines>(
     rt: &R,
     input: &mut [u8],
     output: &mut [u8],
@@ -53,6 +55,29 @@ pub fn answer_all<R: Input + Print, A: AnswersLines>(
         return Err(io::Error::from(io::ErrorKind::InvalidInput));
     }
     answer_input(rt, input, output, longest, answer)
+}
+
+// The same by a closure: `answer` puts what answers a line at the front of a room, `row` bytes long at least, and returns how many bytes
+// that takes. It asks that the closure may be called at any such room, which only who hands it in can show.
+pub fn answer_all<R: Input + Print, F: FnMut(&[u8], &mut [u8]) -> usize>(
+    rt: &R,
+    input: &mut [u8],
+    output: &mut [u8],
+    longest: usize,
+    row: usize,
+    mut answer: F,
+) -> io::Result<()>
+    requires answer { (state : F) (line : _) (room : _) → row ≤ length room.now → F.pre state line room }
+    ensures input_len { length input.new ≡ length input.old }
+    ensures output_len { length output.new ≡ length output.old }
+{
+    if longest >= input.len() {
+        return Err(io::Error::from(io::ErrorKind::InvalidInput));
+    }
+    if row > output.len() {
+        return Err(io::Error::from(io::ErrorKind::InvalidInput));
+    }
+    by_closure::answer_input(rt, input, output, longest, row, &mut answer)
 }
 
 // Answers the lines, read by read.

@@ -39,5 +39,5 @@ fn main(rt: HostRuntime) {
     let mut rows = Rows {
         payload: &mut payload,
     };
-    let _ = lines::answer_all(&rt, &mut input, &mut output, longest, &mut rows);
+    let _ = lines::answer_rows(&rt, &mut input, &mut output, longest, &mut rows);
 }

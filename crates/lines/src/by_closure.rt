@@ -1,0 +1,66 @@
+// Lines answered by a closure: the walk of `answer_rows` once more. There a type answers the lines, and no type can hold the fact that
+// its closure may be called.
+
+ghost use Rattle.std.specs.Prelude.{◌≡◌, ◌<◌, ◌≤◌, length, IfOk};
+
+use super::{end_last, line_end, make_room, move_pending, read_behind};
+use std::io;
+
+// Answers the lines, read by read.
+pub(super) fn answer_input<R: Input + Print, F: FnMut(&[u8], &mut [u8]) -> usize>(
+    rt: &R,
+    input: &mut [u8],
+    output: &mut [u8],
+    longest: usize,
+    row: usize,
+    answer: &mut F,
+) -> io::Result<()>
+    requires longest { longest < length input.old }
+    requires row { row ≤ length output.old }
+    requires answer { (state : F) (line : _) (room : _) → row ≤ length room.now → F.pre state line room }
+    ensures input_len { length input.new ≡ length input.old }
+    ensures output_len { length output.new ≡ length output.old }
+{
+    let mut pending = 0;
+    // No run uses up so many turns.
+    for _ in 0..u64::MAX {
+        let read = read_behind(rt, input, pending)?;
+        let end = end_last(input, pending, read);
+        let start = answer_ended(rt, &input[..end], pending, output, row, answer)?;
+        if read == pending {
+            break;
+        }
+        pending = move_pending(input, start, end, longest);
+    }
+    Ok(())
+}
+
+// Answers the lines that have an end, and returns where the first without one starts. There is none in the first `searched` bytes.
+fn answer_ended<R: Print, F: FnMut(&[u8], &mut [u8]) -> usize>(
+    rt: &R,
+    input: &[u8],
+    searched: usize,
+    output: &mut [u8],
+    row: usize,
+    answer: &mut F,
+) -> io::Result<usize>
+    requires searched { searched ≤ length input.now }
+    requires room { row ≤ length output.old }
+    requires answer { (state : F) (line : _) (room : _) → row ≤ length room.now → F.pre state line room }
+    ensures value { IfOk result (λ start. start ≤ length input.now) }
+    ensures output_len { length output.new ≡ length output.old }
+{
+    let mut start = 0;
+    let mut ready = 0;
+    let mut at = line_end(input, searched);
+    while at < input.len() {
+        ready = make_room(rt, output, ready, row)?;
+        let room = &mut output[ready..];
+        let most = room.len();
+        ready += answer(&input[start..at], room).min(most);
+        start = at + 1;
+        at = line_end(input, start);
+    }
+    Print::write_all(rt, &output[..ready])?;
+    Ok(start)
+}
