@@ -1,12 +1,12 @@
-// Lines answered by a closure: the walk of `answer_rows` once more. There a type answers the lines, and no type can hold the fact that
-// its closure may be called.
+// Lines answered by a closure. For `answer_rows` a type answers them; no type can hold the fact that its closure may be called, so the
+// walk over the lines stands here once more, of the same steps.
 
 ghost use Rattle.std.specs.Prelude.{◌≡◌, ◌<◌, ◌≤◌, length, IfOk};
 
-use super::{end_last, line_end, make_room, move_pending, read_behind};
+use super::{line_end, make_room, move_pending, read_behind};
 use std::io;
 
-// Answers the lines, read by read.
+// Answers the lines, read by read, and what is pending at the end of the input.
 pub(super) fn answer_input<R: Input + Print, F: FnMut(&[u8], &mut [u8]) -> usize>(
     rt: &R,
     input: &mut [u8],
@@ -24,15 +24,18 @@ pub(super) fn answer_input<R: Input + Print, F: FnMut(&[u8], &mut [u8]) -> usize
     let mut pending = 0;
     // No run uses up so many turns.
     for _ in 0..u64::MAX {
-        let read = read_behind(rt, input, pending)?;
-        let end = end_last(input, pending, read);
-        let start = answer_ended(rt, &input[..end], pending, output, row, answer)?;
-        if read == pending {
+        let end = read_behind(rt, input, pending)?;
+        if end == pending {
             break;
         }
+        let start = answer_ended(rt, &input[..end], pending, output, row, answer)?;
         pending = move_pending(input, start, end, longest);
     }
-    Ok(())
+    if pending == 0 {
+        return Ok(());
+    }
+    let last = answer(&input[..pending], output).min(output.len());
+    Print::write_all(rt, &output[..last])
 }
 
 // Answers the lines that have an end, and returns where the first without one starts. There is none in the first `searched` bytes.
