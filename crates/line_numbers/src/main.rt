@@ -12,12 +12,12 @@ const LONGEST: usize = 9;
 // A byte more, so that a longer line is cut at its ninth byte, however it is read.
 const INPUT: usize = 10;
 
-// A digit, a space, a line that fills the input, and its end.
-const ROW: usize = 13;
+// A digit, a space, the longest line, and its end.
+const ROW: usize = 12;
 
 // Puts a line behind its number at the front of a room, and answers where its row ends.
 fn answer(line: &[u8], room: &mut [u8], number: &mut u8) -> usize
-    requires { 13 ≤ length room.old }
+    requires { 12 ≤ length room.old }
 {
     *number = number.wrapping_add(1);
     room[0] = b'0' + *number % 10;
@@ -41,18 +41,20 @@ fn answer_lines(
         LONGEST,
         ROW,
         |line, room| -> usize
-            requires { 13 ≤ length room.now }
+            requires { 12 ≤ length room.now }
         { answer(line, room, number) },
     )
 }
 
-// An input with no byte beside what counts is refused, and so is an output shorter than a row: nothing is read then. The last two are
-// just as long as they have to be.
+// Says of four calls whether they were done. The first two read nothing: their input has no byte beside what counts, or their output is
+// shorter than a row. The third answers all lines, two rows at a time. The last comes at the end of the input, with an output of one row.
 fn main(rt: HostRuntime) {
     let mut input = [0u8; INPUT];
-    let mut output = [0u8; ROW];
+    let mut output = [0u8; 2 * ROW];
     let mut number = 0;
-    let _ = answer_lines(&rt, &mut [0u8; LONGEST], &mut output, &mut number);
-    let _ = answer_lines(&rt, &mut input, &mut [0u8; ROW - 1], &mut number);
-    let _ = answer_lines(&rt, &mut input, &mut output, &mut number);
+    let short_input = answer_lines(&rt, &mut [0u8; LONGEST], &mut output, &mut number).is_ok();
+    let short_output = answer_lines(&rt, &mut input, &mut [0u8; ROW - 1], &mut number).is_ok();
+    let all = answer_lines(&rt, &mut input, &mut output, &mut number).is_ok();
+    let at_end = answer_lines(&rt, &mut input, &mut [0u8; ROW], &mut number).is_ok();
+    let _ = println!(rt; "{short_input} {short_output} {all} {at_end}");
 }
