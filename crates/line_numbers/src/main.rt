@@ -47,7 +47,8 @@ fn answer_lines(
 }
 
 // Says of four calls whether they were done. The first two read nothing: their input has no byte beside what counts, or their output is
-// shorter than a row. The third answers all lines, two rows at a time. The last comes at the end of the input, with an output of one row.
+// shorter than a row. The third answers all lines, with more than one row in its output. The last comes at the end of the input, with an
+// output of one row.
 fn main(rt: HostRuntime) {
     let mut input = [0u8; INPUT];
     let mut output = [0u8; 2 * ROW];

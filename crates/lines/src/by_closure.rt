@@ -1,7 +1,7 @@
 // Lines answered by a closure. For `answer_rows` a type answers them; no type can hold the fact that its closure may be called, so the
-// walk over the lines stands here once more, of the same steps.
+// walk over the lines stands here once more, of the same steps but for the call.
 
-ghost use Rattle.std.specs.Prelude.{◌≡◌, ◌<◌, ◌≤◌, length, IfOk};
+ghost use Rattle.std.specs.Prelude.{◌≡◌, ◌+◌, ◌<◌, ◌≤◌, length, take, IfOk};
 
 use super::{line_end, make_room, move_pending, read_behind};
 use std::io;
@@ -34,7 +34,7 @@ pub(super) fn answer_input<R: Input + Print, F: FnMut(&[u8], &mut [u8]) -> usize
     if pending == 0 {
         return Ok(());
     }
-    let last = answer(&input[..pending], output).min(output.len());
+    let last = answer_one(answer, &input[..pending], output, 0);
     Print::write_all(rt, &output[..last])
 }
 
@@ -58,12 +58,28 @@ fn answer_ended<R: Print, F: FnMut(&[u8], &mut [u8]) -> usize>(
     let mut at = line_end(input, searched);
     while at < input.len() {
         ready = make_room(rt, output, ready, row)?;
-        let room = &mut output[ready..];
-        let most = room.len();
-        ready += answer(&input[start..at], room).min(most);
+        ready = answer_one(answer, &input[start..at], output, ready);
         start = at + 1;
         at = line_end(input, start);
     }
     Print::write_all(rt, &output[..ready])?;
     Ok(start)
+}
+
+// Has a line answered behind what is ready, which stays, and returns where what is ready ends.
+fn answer_one<F: FnMut(&[u8], &mut [u8]) -> usize>(
+    answer: &mut F,
+    line: &[u8],
+    output: &mut [u8],
+    ready: usize,
+) -> usize
+    requires ready { ready ≤ length output.old }
+    requires answer { (state : F) (line : _) (room : _) → length output.old ≤ ready + length room.now → F.pre state line room }
+    ensures value { (ready ≤ result) × (result ≤ length output.old) }
+    ensures stays { take ready output.new ≡ take ready output.old }
+    ensures output_len { length output.new ≡ length output.old }
+{
+    let room = &mut output[ready..];
+    let most = room.len();
+    ready + answer(line, room).min(most)
 }
