@@ -1,5 +1,5 @@
-// Answers each line of the standard input by its number and itself, by a closure. The gate runs it: no other program calls
-// `lines::answer_all`.
+// Answers each line of the standard input by the last digit of its number and by itself, through a closure. The gate runs it: no other
+// program calls `lines::answer_all`.
 #![tactic(auto)]
 
 ghost use Rattle.std.specs.Prelude.{◌≤◌, length};
